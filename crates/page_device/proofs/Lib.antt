@@ -1,0 +1,6 @@
+pub mod States
+pub mod Undo
+pub mod Calls
+pub mod Consistent
+pub mod Room
+pub mod Views
