@@ -4,3 +4,4 @@ pub mod Calls
 pub mod Consistent
 pub mod Room
 pub mod Views
+pub mod Quiet

@@ -8,10 +8,12 @@
 mod block;
 mod device;
 mod error;
+mod file;
 mod log;
 mod memory;
 
 pub use block::Page;
 pub use device::{Device, End, LogEntry};
 pub use error::{Damage, Failed, NoMemory};
+pub use file::FileDevice;
 pub use memory::{MemDevice, Plan};
