@@ -1,0 +1,13 @@
+//! The trace language: commands, one a line, and the replies to them.
+//!
+//! `specs/Grammar.antt` says which lines are commands, apart from any parser, and `specs/Texts.antt`
+//! what each reply reads. `docs/FORMAT.md` is the language in prose.
+#![tactic(auto)]
+
+mod command;
+mod line_buf;
+mod reply;
+
+pub use command::Command;
+pub use line_buf::LineBuf;
+pub use reply::{Halt, Reply, ScanReport, Stat};
