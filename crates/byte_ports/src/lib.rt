@@ -7,6 +7,8 @@ mod memory;
 mod plan;
 mod sink;
 mod source;
+#[cfg(test)]
+mod tests;
 
 pub use adapter::{StdSink, StdSource};
 pub use memory::{MemSink, MemSource};
