@@ -1,9 +1,9 @@
 -- A source and a sink in memory, as callers see them, and what one call does to each.
-use Rattle.std.specs.Prelude.{ℕ, ◌==◌, ◌&&◌, not, min, max, Bool, true, List, ◌++◌, length, drop, if◌then◌else◌, Result, Ok, Err}
+use Rattle.std.specs.Prelude.{ℕ, ◌==◌, min, max, Bool, true, List, ◌++◌, length, drop, Result, Ok, Err}
 use Rattle.std.specs.List.{list_any}
 use Rattle.page_device.specs.declared.error.Failed.{Failed}
 use Rattle.byte_ports.specs.Fault.{raised}
-use Rattle.byte_ports.specs.Source.{SourceMeaning}
+use Rattle.byte_ports.specs.Source.{SourceMeaning, ends_after}
 use Rattle.byte_ports.specs.Sink.{SinkMeaning}
 
 -- whether the call of this number is planned to fail
@@ -42,7 +42,7 @@ source_gave s bytes size = record s {
   left = drop bytes s.left;
   calls = raised s.calls 1;
   given = raised s.given bytes;
-  ends = if bytes == 0 && not (size == 0) then raised s.ends 1 else s.ends;
+  ends = ends_after s.ends bytes size;
 }
 
 -- after a call for a piece of so many bytes, by what it answered

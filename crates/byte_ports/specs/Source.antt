@@ -1,6 +1,7 @@
 -- What a source of bytes means, and what one call of it does.
-use Rattle.std.specs.Prelude.{◌≡◌, ℕ, ◌+◌, ◌<◌, ◌≤◌, ◌^◌, Bool, true, List, [], ◌++◌, length, refl}
+use Rattle.std.specs.Prelude.{◌≡◌, ℕ, ◌+◌, ◌<◌, ◌≤◌, ◌^◌, ◌==◌, ◌&&◌, not, if◌then◌else◌, Bool, true, List, [], ◌++◌, length, refl}
 use Rattle.std.proofs.Common.{sym, ◌∙◌, ap, arith, append_assoc, length-append}
+use Rattle.byte_ports.specs.Fault.{raised}
 
 -- what a source tells of itself
 pub record SourceMeaning : Type 0 where
@@ -12,6 +13,10 @@ pub record SourceMeaning : Type 0 where
   -- the bytes that it gave, and the calls for a non-empty piece that gave none; each stands still at its end
   pub given : ℕ
   pub ends : ℕ
+
+-- the number of ends after a call that gave so many bytes to a piece of this size
+abbrev pub ends_after : ℕ → ℕ → ℕ → ℕ
+ends_after ends bytes size = if bytes == 0 && not (size == 0) then raised ends 1 else ends
 
 -- it gave these bytes
 pub record Gives (bytes : List ℕ) (old new : SourceMeaning) : Type 0 where

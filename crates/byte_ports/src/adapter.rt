@@ -3,7 +3,7 @@ ghost use Rattle.std.specs.Prelude.{◌≡◌, ◌⊎◌, ◌<◌, ◌≤◌, fa
 ghost use Rattle.std.specs.Io.KnownBytes.{ReadConsumes, WriteAppends};
 ghost use Rattle.byte_ports.specs.Adapter.{reader_told, writer_told};
 
-use crate::fault::fail;
+use crate::counts::{Given, fail};
 use crate::{Sink, Source};
 use page_device::Failed;
 use std::io::{ErrorKind, Read, Write};
@@ -21,8 +21,7 @@ pub struct StdSource<R: Read> {
     // Whether contracts speak of the bytes that the reader has left.
     tells: bool,
     faults: u64,
-    given: u64,
-    ends: u64,
+    given: Given,
 }
 
 impl<R: Read> Model for StdSource<R> {
@@ -32,7 +31,7 @@ impl<R: Read> Model for StdSource<R> {
 
     ghost Value = { SourceMeaning };
 
-    ghost view = { λ s. reader_told s.tells (R.remaining s.inner) s.faults s.given s.ends };
+    ghost view = { λ s. reader_told s.tells (R.remaining s.inner) s.faults s.given.bytes s.given.ends };
 
     ghost invariant = { λ s. s.tells ≡ true → IsSome (R.remaining s.inner) };
 }
@@ -46,8 +45,7 @@ impl<R: Read> StdSource<R> {
             inner,
             tells: false,
             faults: 0,
-            given: 0,
-            ends: 0,
+            given: Given::new(),
         }
     }
 
@@ -60,8 +58,7 @@ impl<R: Read> StdSource<R> {
             inner,
             tells: true,
             faults: 0,
-            given: 0,
-            ends: 0,
+            given: Given::new(),
         }
     }
 }
@@ -88,10 +85,7 @@ impl<R: Read> Source for StdSource<R> {
         let Ok(count) = read_again(&mut self.inner, into) else {
             return fail(&mut self.faults);
         };
-        self.given = self.given.saturating_add(count as u64);
-        if count == 0 && !into.is_empty() {
-            self.ends = self.ends.saturating_add(1);
-        }
+        self.given.count(count, into.len());
         Ok(count)
     }
 }

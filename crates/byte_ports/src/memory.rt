@@ -5,7 +5,7 @@ ghost use Rattle.byte_ports.specs.Memory.{fails_at, source_told, portion, source
 ghost use Rattle.byte_ports.specs.Sink.{Takes, TakesFront};
 ghost use Rattle.byte_ports.specs.Source.{Gives, IsEnd, GivesNothing};
 
-use crate::fault::fail;
+use crate::counts::{Given, fail};
 use crate::plan::Plan;
 use crate::{Sink, Source};
 use page_device::{Failed, NoMemory};
@@ -23,8 +23,7 @@ pub struct MemSource {
     at: usize,
     piece: usize,
     plan: Plan,
-    given: u64,
-    ends: u64,
+    given: Given,
 }
 
 impl Model for MemSource {
@@ -39,8 +38,8 @@ impl Model for MemSource {
       fails = s.plan.fails.items;
       calls = s.plan.calls;
       faults = s.plan.faults;
-      given = s.given;
-      ends = s.ends;
+      given = s.given.bytes;
+      ends = s.given.ends;
     } };
 
     ghost invariant = { λ s. s.at ≤ length s.bytes.items };
@@ -66,8 +65,7 @@ impl MemSource {
             at: 0,
             piece,
             plan: Plan::new(fails),
-            given: 0,
-            ends: 0,
+            given: Given::new(),
         }
     }
 
@@ -106,10 +104,7 @@ impl Source for MemSource {
             return fail(&mut self.plan.faults);
         }
         let count = self.copy_next(into);
-        self.given = self.given.saturating_add(count as u64);
-        if count == 0 && !into.is_empty() {
-            self.ends = self.ends.saturating_add(1);
-        }
+        self.given.count(count, into.len());
         Ok(count)
     }
 }
