@@ -9,12 +9,13 @@ use page_device::Failed;
 use std::io::{ErrorKind, Read, Write};
 use std::marker::Model;
 
-// How often a call is tried where signals interrupt it.
+// How often a call is tried where signals interrupt it, so that each call ends.
 const MOST_TRIES: u32 = u32::MAX;
 
 /// A reader of std as a source.
 ///
-/// A call that a signal interrupted is tried again; every other error is a fault.
+/// A call that a signal interrupted is tried again, up to 2^32 - 1 times in all; every other error is a
+/// fault. A call of `take` costs one read of the reader, beside those that were interrupted.
 #[derive(Drop)]
 pub struct StdSource<R: Read> {
     inner: R,
@@ -37,7 +38,8 @@ impl<R: Read> Model for StdSource<R> {
 }
 
 impl<R: Read> StdSource<R> {
-    /// A source over the reader. It does not tell what the reader has left.
+    /// A source over any reader. It does not tell what the reader has left, since a reader that tells
+    /// nothing may begin to. Takes no memory.
     pub fn new(inner: R) -> StdSource<R>
         ensures { result ≡ reader_told false (R.remaining inner) 0 0 0 }
     {
@@ -49,7 +51,8 @@ impl<R: Read> StdSource<R> {
         }
     }
 
-    /// A source over a reader of known bytes, which tells what the reader has left.
+    /// A source over a reader of known bytes, as a slice or a cursor. It tells what the reader has left.
+    /// Takes no memory.
     pub fn telling(inner: R) -> StdSource<R>
         requires { IsSome (R.remaining inner) }
         ensures { result ≡ reader_told true (R.remaining inner) 0 0 0 }
@@ -92,8 +95,9 @@ impl<R: Read> Source for StdSource<R> {
 
 /// A writer of std as a sink.
 ///
-/// A call that a signal interrupted is tried again; every other error is a fault, and so is a write that
-/// takes nothing of a piece that is not empty.
+/// A call that a signal interrupted is tried again, up to 2^32 - 1 times in all; every other error is a
+/// fault, and so is a write that takes nothing of a piece that is not empty. A call of `put` costs one
+/// write of the writer, beside those that were interrupted. The writer is not flushed.
 #[derive(Drop)]
 pub struct StdSink<W: Write> {
     inner: W,
@@ -115,7 +119,8 @@ impl<W: Write> Model for StdSink<W> {
 }
 
 impl<W: Write> StdSink<W> {
-    /// A sink over the writer. It does not tell what the writer holds.
+    /// A sink over any writer. It does not tell what the writer holds, since a writer that tells nothing
+    /// may begin to. Takes no memory.
     pub fn new(inner: W) -> StdSink<W>
         ensures { result ≡ writer_told false (W.contents inner) 0 }
     {
@@ -126,7 +131,7 @@ impl<W: Write> StdSink<W> {
         }
     }
 
-    /// A sink over a writer of known bytes, which tells what the writer holds.
+    /// A sink over a writer of known bytes, as a vector. It tells what the writer holds. Takes no memory.
     pub fn telling(inner: W) -> StdSink<W>
         requires { IsSome (W.contents inner) }
         ensures { result ≡ writer_told true (W.contents inner) 0 }

@@ -13,8 +13,9 @@ pub trait Source {
     /// What it tells of itself.
     ghost seen: { Self → SourceMeaning };
 
-    /// Takes the next bytes into the front of the piece, and gives their number. None for a piece that
-    /// is not empty is the end. After `Failed` nothing was given, and nothing is known of the piece.
+    /// Takes the next bytes into the front of the piece, and gives their number. 0 for a piece that is
+    /// not empty is the end: nothing is left, and the source counts an end. After `Failed` nothing was
+    /// given, and nothing is known of the piece.
     fn take(&mut self, into: &mut [u8]) -> Result<usize, Failed>
         ensures cause { CountsFault result (seen self.old).faults (seen self.new).faults }
         ensures bound { IfOk result (λ n. n ≤ length into.new) }
