@@ -6,13 +6,9 @@ use Rattle.page_device.specs.declared.device.LogEntry.TheVariants.{Write, Flush}
 use Rattle.page_device.specs.declared.device.End.TheVariants.{Done, Refused}
 use Rattle.page_device.specs.Block.{Block}
 use Rattle.page_device.specs.Disk.{DeviceState, overlay, newest, written, after, state_after}
+use Rattle.page_device.specs.Possible.{newest_written}
 use Rattle.page_device.specs.Moments.{state_after-append}
 use Rattle.page_device.specs.Memory.{lost_call, entries_of}
-
-pub overlay-append : (pages : List Block) (xs ys : List (ℕ × Block)) → overlay pages (xs ++ ys) ≡ overlay (overlay pages xs) ys
-unfolding overlay
-overlay-append pages [] ys = refl
-overlay-append pages (x ∷ xs) ys = overlay-append (slice_set pages x.0 x.1) xs ys
 
 -- lost calls change nothing
 pub after_lost : (s : DeviceState) (n : ℕ) → state_after s (replicate n lost_call) ≡ s
@@ -29,11 +25,6 @@ entries_of-last [] (n ∷ ns) entry lost l = absurd (omega (arith, l))
 entries_of-last (x ∷ xs) [] entry lost l = absurd (omega (arith, l))
 entries_of-last (x ∷ xs) (n ∷ ns) entry lost l =
     rw (entries_of-last xs ns entry lost (omega (arith, l))) (simp append_assoc)
-
--- the pages after one content more
-pub newest_written : (s : DeviceState) (page : ℕ) (block : Block) → newest (written s page block) ≡ slice_set (newest s) page block
-unfolding overlay
-newest_written s page block = overlay-append s.fixed s.since ((page, block) ∷ [])
 
 -- more lost calls at the end
 pub lost_gap : (entries : List LogEntry) (few many : ℕ) → few ≤ many → entries ++ replicate many lost_call ≡ (entries ++ replicate few lost_call) ++ replicate (many - few) lost_call

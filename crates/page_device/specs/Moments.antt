@@ -1,11 +1,11 @@
 -- What a crash at any moment of a call, or of many, may leave.
-use Rattle.std.specs.Prelude.{◌≡◌, ℕ, zero, suc, ◌≤◌, true, List, [], ◌∷◌, ◌++◌, length, take, refl}
-use Rattle.std.proofs.Common.{sym, ◌∙◌, ap, subst, arith, append_assoc}
+use Rattle.std.specs.Prelude.{◌≡◌, ℕ, zero, suc, ◌+◌, ◌≤◌, true, List, [], ◌∷◌, ◌++◌, length, take, refl}
+use Rattle.std.proofs.Common.{sym, ◌∙◌, ap, subst, arith, append_assoc, length-append}
 use Rattle.std.proofs.lemmas.List.{append-nil}
 use Rattle.page_device.specs.declared.device.LogEntry.{LogEntry}
 use Rattle.page_device.specs.Block.{Block}
 use Rattle.page_device.specs.Disk.{DeviceState, IsImage, after, state_after}
-use Rattle.page_device.specs.Meaning.{Meaning, SameKind, IsCounted, OneCall}
+use Rattle.page_device.specs.Meaning.{Meaning, SameKind, IsCounted, OneCall, OneRead}
 
 -- each image of the state has P
 abbrev pub EachImage : (List Block → Type 0) → DeviceState → Type 0
@@ -91,3 +91,38 @@ leaves_call IsEntry old new P tells call before later = record {
 -- less may be said
 pub leaves_weaker : (old new : Meaning) (P Q : List Block → Type 0) → ((i : List Block) → Q i → P i) → Leaves old new Q → Leaves old new P
 leaves_weaker old new P Q f l = record { calls = l.calls; grows = l.grows; log = l.log; state = l.state; each = each-weaker Q P old.state l.calls f l.each; kind = l.kind }
+
+-- how many calls these have
+pub length-leaves_start : (old : Meaning) (P : List Block → Type 0) (here : EachImage P old.state) → length (leaves_start old P here).calls ≡ 0
+unfolding leaves_start
+length-leaves_start old P here = refl
+
+pub length-leaves_call : (IsEntry : LogEntry → Type 0) (old new : Meaning) (P : List Block → Type 0) (tells : old.tells_pages ≡ true) (call : OneCall IsEntry old new) (before : EachImage P old.state) (later : EachImage P new.state)
+    → length (leaves_call IsEntry old new P tells call before later).calls ≡ 1
+unfolding leaves_call
+length-leaves_call IsEntry old new P tells call before later = refl
+
+pub length-leaves_then : (old mid new : Meaning) (P Q : List Block → Type 0) (tells : old.tells_pages ≡ true) (so_far : Leaves old mid P) (f : (i : List Block) → Q i → P i) (next : Leaves mid new Q)
+    → length (leaves_then old mid new P Q tells so_far f next).calls ≡ length so_far.calls + length next.calls
+unfolding leaves_then
+length-leaves_then old mid new P Q tells so_far f next = length-append so_far.calls next.calls
+
+pub length-leaves_weaker : (old new : Meaning) (P Q : List Block → Type 0) (f : (i : List Block) → Q i → P i) (l : Leaves old new Q) → length (leaves_weaker old new P Q f l).calls ≡ length l.calls
+unfolding leaves_weaker
+length-leaves_weaker old new P Q f l = refl
+
+-- a read alone
+pub leaves_read : (old new : Meaning) (P : List Block → Type 0) → OneRead old new → EachImage P old.state → Leaves old new P
+unfolding EachMoment state_after
+leaves_read old new P read here = record {
+  calls = [];
+  grows = λ t. omega (arith, ap length (read.log t));
+  log = λ t _. read.log t ∙ sym (append-nil old.log);
+  state = read.state;
+  each = here;
+  kind = read.kind;
+}
+
+pub length-leaves_read : (old new : Meaning) (P : List Block → Type 0) (read : OneRead old new) (here : EachImage P old.state) → length (leaves_read old new P read here).calls ≡ 0
+unfolding leaves_read
+length-leaves_read old new P read here = refl

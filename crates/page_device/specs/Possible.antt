@@ -72,3 +72,39 @@ pub length-state_after : (s : DeviceState) (entries : List LogEntry) → length 
 unfolding state_after
 length-state_after s [] = refl
 length-state_after s (entry ∷ entries) = length-state_after (after s entry) entries ∙ length-after s entry
+
+pub overlay-append : (pages : List Block) (xs ys : List (ℕ × Block)) → overlay pages (xs ++ ys) ≡ overlay (overlay pages xs) ys
+unfolding overlay
+overlay-append pages [] ys = refl
+overlay-append pages (x ∷ xs) ys = overlay-append (slice_set pages x.0 x.1) xs ys
+
+-- the newest contents after one content more
+pub newest_written : (s : DeviceState) (page : ℕ) (block : Block) → newest (written s page block) ≡ slice_set (newest s) page block
+unfolding overlay
+newest_written s page block = overlay-append s.fixed s.since ((page, block) ∷ [])
+
+-- a barrier leaves no content that could not be there before it
+pub settled_holds : (s : DeviceState) (page : ℕ) (block : Block) → MayHold (settled s) page block → MayHold s page block
+unfolding WasWritten
+settled_holds s page block (inl h) = overlay_holds s.fixed s.since page block h
+settled_holds s page block (inr h) = absurd h
+
+-- the page has one possible content
+abbrev pub Only : DeviceState → ℕ → Block → Type 0
+Only s page block = (b : Block) → MayHold s page b → b ≡ block
+
+-- so it is once a content was written and a barrier made
+pub only_put : (s : DeviceState) (page : ℕ) (block : Block) → page < length s.fixed → Only (settled (written s page block)) page block
+unfolding WasWritten
+only_put s page block within b (inl h) =
+    let at : slice_get (slice_set (newest s) page block) page ≡ Some block = slice_get-set_within (newest s) page block (omega (arith, within, length-overlay s.fixed s.since)) in
+    let is : slice_get (slice_set (newest s) page block) page ≡ Some b = subst (λ (l : List Block). slice_get l page ≡ Some b) (newest_written s page block) h in
+    cc
+only_put s page block within b (inr h) = absurd h
+
+-- it stays so over a write of another page, and over a barrier
+pub only_other : (s : DeviceState) (page other : ℕ) (block content : Block) → (other ≡ page → ⊥) → Only s page block → Only (written s other content) page block
+only_other s page other block content apart only b h = ⊎_elim (λ before. only b before) (λ new. absurd (apart new.0)) (after_holds s other content page b h)
+
+pub only_settled : (s : DeviceState) (page : ℕ) (block : Block) → Only s page block → Only (settled s) page block
+only_settled s page block only b h = only b (settled_holds s page b h)

@@ -32,11 +32,18 @@ pub struct FileDevice<'r, R: Files> {
 }
 
 // Reads a whole page.
-fn read_whole<F: Read + Seek>(file: &mut Option<F>, page: u32, into: &mut [u8]) -> Result<(), Failed> {
+fn read_whole<F: Read + Seek>(
+    file: &mut Option<F>,
+    page: u32,
+    into: &mut [u8],
+) -> Result<(), Failed> {
     let Some(file) = file else {
         return Err(Failed);
     };
-    if file.seek(SeekFrom::Start(u64::from(page) * PAGE_BYTES)).is_err() {
+    if file
+        .seek(SeekFrom::Start(u64::from(page) * PAGE_BYTES))
+        .is_err()
+    {
         return Err(Failed);
     }
     if file.read_exact(into).is_err() {
@@ -46,11 +53,18 @@ fn read_whole<F: Read + Seek>(file: &mut Option<F>, page: u32, into: &mut [u8]) 
 }
 
 // Writes a whole page.
-fn write_whole<F: Write + Seek>(file: &mut Option<F>, page: u32, from: &[u8]) -> Result<(), Failed> {
+fn write_whole<F: Write + Seek>(
+    file: &mut Option<F>,
+    page: u32,
+    from: &[u8],
+) -> Result<(), Failed> {
     let Some(file) = file else {
         return Err(Failed);
     };
-    if file.seek(SeekFrom::Start(u64::from(page) * PAGE_BYTES)).is_err() {
+    if file
+        .seek(SeekFrom::Start(u64::from(page) * PAGE_BYTES))
+        .is_err()
+    {
         return Err(Failed);
     }
     if file.write_all(from).is_err() {

@@ -58,12 +58,15 @@ first_data_page shape = first_print_page shape + print_pages shape
 abbrev pub total : ShapeView → ℕ
 total shape = first_data_page shape + shape.pages
 
--- the device page that holds the map entry of a block, the count of a data page, or the data page itself
+-- the device page that holds the map entry of a block, the count or the print of a data page, or the data page itself
 abbrev pub map_page : ℕ → ℕ
 map_page block = 1 + block / 1024
 
 abbrev pub count_page : ShapeView → ℕ → ℕ
 count_page shape p = first_count_page shape + (p - 1) / 1024
+
+abbrev pub print_page : ShapeView → ℕ → ℕ
+print_page shape p = first_print_page shape + (p - 1) / 170
 
 abbrev pub data_page : ShapeView → ℕ → ℕ
 data_page shape p = first_data_page shape + (p - 1)
@@ -74,3 +77,6 @@ map_place block = block % 1024
 
 abbrev pub count_place : ℕ → ℕ
 count_place p = (p - 1) % 1024
+
+abbrev pub print_place : ℕ → ℕ
+print_place p = (p - 1) % 170

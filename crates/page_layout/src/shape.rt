@@ -1,6 +1,6 @@
 // The shape of an image, and the places in it.
 ghost use Rattle.std.specs.Prelude.{◌≡◌, ◌+◌, ◌^◌, ◌≤◌, ◌<◌, ◌↔◌, IsOk, IfOk, IsSome, IfSome};
-ghost use Rattle.page_layout.specs.Shape.{IsValid, first_count_page, first_data_page, total, map_page, map_place, count_page, count_place, data_page};
+ghost use Rattle.page_layout.specs.Shape.{IsValid, count_pages, first_count_page, first_data_page, total, map_page, map_place, count_page, count_place, data_page};
 
 use std::marker::Model;
 
@@ -69,11 +69,19 @@ impl Shape {
         })
     }
 
-    // The first page of the counts.
-    fn first_count_page(&self) -> u32
-        ensures { result ≡ first_count_page self.now }
+    /// The first page of the counts: the map pages are those from 1 up to it.
+    pub fn first_count_page(&self) -> u32
+        ensures place { result ≡ first_count_page self.now }
+        ensures fits { result < 2 ^ 32 }
     {
         1 + self.blocks.div_ceil(NUMBERS)
+    }
+
+    /// The number of count pages.
+    pub fn count_pages(&self) -> u32
+        ensures { result ≡ count_pages self.now }
+    {
+        self.pages.div_ceil(NUMBERS)
     }
 
     /// The first data page of the device: every page before it is the superblock or a table page.
@@ -82,7 +90,8 @@ impl Shape {
         ensures place { result ≡ first_data_page self.now }
         ensures fits { result + self.now.pages < 2 ^ 32 }
     {
-        self.first_count_page() + self.pages.div_ceil(NUMBERS) + self.pages.div_ceil(PRINTS)
+        let print_pages = self.pages.div_ceil(PRINTS);
+        self.first_count_page() + self.count_pages() + print_pages
     }
 
     /// The number of pages of an image of this shape.
