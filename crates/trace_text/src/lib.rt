@@ -5,9 +5,16 @@
 #![tactic(auto)]
 
 mod command;
+mod contents;
 mod line_buf;
+mod number;
+mod parse;
 mod reply;
+mod texts;
 
 pub use command::Command;
 pub use line_buf::LineBuf;
+pub use number::read_number;
+pub use parse::Bad;
 pub use reply::{Halt, Reply, ScanReport, Stat};
+pub use texts::reply_text;
