@@ -1,2 +1,4 @@
 pub mod Numbers
 pub mod Trimmed
+pub mod Filled
+pub mod Split

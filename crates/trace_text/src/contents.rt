@@ -1,7 +1,9 @@
 // The bytes of a page in hexadecimal.
-ghost use Rattle.std.specs.Prelude.{◌≡◌, ℕ, ◌+◌, ◌*◌, ◌≤◌, ◌++◌, List, length, drop, true, false, Some, IfSome, Ok, IsErr};
+ghost use Rattle.std.specs.Prelude.{◌≡◌, ℕ, ◌+◌, ◌*◌, ◌/◌, ◌≤◌, ◌++◌, List, length, drop, true, false, Some, IfSome, Ok, IsErr};
+ghost use Rattle.std.specs.Option.{SomeIff};
 ghost use Rattle.hex.specs.Hex.{decode_of, encode_lower};
 ghost use Rattle.page_device.specs.Block.{Block};
+ghost use Rattle.trace_text.specs.Fields.{FitsPage};
 ghost use Rattle.trace_text.specs.Grammar.{Fills};
 ghost use Rattle.trace_text.specs.Texts.{hex_of_some, hex_or_dash, trimmed};
 
@@ -59,15 +61,26 @@ fn decode_front(digits: &[u8], bytes: &mut [u8], count: usize) -> bool
     decode_to_slice(digits, &mut bytes[..count]).is_ok()
 }
 
+// How many bytes digits write, where they are 1 to 4096.
+fn bytes_of(digits: &[u8]) -> Option<usize>
+    ensures { SomeIff result (FitsPage (length digits.now)) (length digits.now / 2) }
+{
+    let count = digits.len() / 2;
+    if digits.len() == 2 * count && 1 <= count && count <= 4096 {
+        Some(count)
+    } else {
+        None
+    }
+}
+
 // The page that digits of both cases fill, of 1 to 4096 bytes.
 pub fn read_page(digits: &[u8]) -> Option<Page>
     ensures read { IfSome result (λ page. Fills digits.now page) }
     ensures only { (page : Block) → Fills digits.now page → result ≡ Some page }
 {
-    let count = digits.len() / 2;
-    if count < 1 || count > 4096 || digits.len() != 2 * count {
+    let Some(count) = bytes_of(digits) else {
         return None;
-    }
+    };
     let mut page = Page::zero();
     if decode_front(digits, &mut page.0, count) {
         Some(page)

@@ -6,6 +6,8 @@
 
 mod command;
 mod contents;
+mod fields;
+mod kinds;
 mod line_buf;
 mod number;
 mod parse;
