@@ -2,3 +2,5 @@ pub mod Numbers
 pub mod Trimmed
 pub mod Filled
 pub mod Split
+pub mod Only
+pub mod Shapes

@@ -1,5 +1,5 @@
 -- Which lines are commands, by cases on the command and apart from any parser.
-use Rattle.std.specs.Prelude.{◌≡◌, ℕ, ◌+◌, ◌-◌, ◌*◌, ◌^◌, ◌<◌, ◌≤◌, List, ◌++◌, length, replicate, codes, decimal, Ok}
+use Rattle.std.specs.Prelude.{◌≡◌, ℕ, ◌-◌, ◌^◌, ◌<◌, ◌≤◌, List, ◌++◌, length, replicate, codes, decimal, Ok}
 use Rattle.hex.specs.Hex.{decode_of}
 use Rattle.page_device.specs.Block.{Block}
 use Rattle.trace_text.specs.declared.command.Command.{Command}

@@ -1,10 +1,11 @@
 // Commands with fields, by kind, over the text past their first space.
 #![tactic(auto, unfolding(crate::specs::Grammar::IsCommand, crate::specs::Texts::line_of))]
 
-ghost use Rattle.std.specs.Prelude.{◌≡◌, ℕ, ◌<◌, ◌≤◌, ◌^◌, ◌++◌, List, codes, decimal, Some, IfSome};
+ghost use Rattle.std.specs.Prelude.{◌≡◌, ℕ, ◌<◌, ◌≤◌, ◌^◌, [], ◌∷◌, ◌++◌, List, codes, decimal, Some, IfSome};
 ghost use Rattle.page_device.specs.Block.{Block};
 ghost use Rattle.trace_text.specs.Fields.{before_rest};
 ghost use Rattle.trace_text.specs.Grammar.{Fills, IsCommand};
+ghost use Rattle.trace_text.specs.declared.command.Command.{Command};
 
 use crate::Command;
 use crate::contents::read_page;
@@ -75,5 +76,40 @@ fn copy(text: &[u8]) -> Option<Command>
     let (from, rest) = split_small(text)?;
     let (to, rest) = split_small(rest)?;
     let n = read_small(rest)?;
-    if n == 0 { None } else { Some(Command::Copy { from, to, n }) }
+    if n == 0 {
+        None
+    } else {
+        Some(Command::Copy { from, to, n })
+    }
+}
+
+/// The command of a line of a kind, a space and a text.
+pub fn command_of(kind: u8, text: &[u8]) -> Option<Command>
+    ensures read { IfSome result (λ command. IsCommand (kind ∷ 32 ∷ text.now) command) }
+    ensures only { (command : Command) → IsCommand (kind ∷ 32 ∷ text.now) command → result ≡ Some command }
+{
+    match kind {
+        b'w' => write(text),
+        b'x' => fill(text),
+        b'r' => read(text),
+        b'd' => discard(text),
+        b'c' => copy(text),
+        b'p' => policy(text),
+        b'n' => tune(text),
+        _ => None,
+    }
+}
+
+/// The command of a line of one byte.
+pub fn bare_command(kind: u8) -> Option<Command>
+    ensures read { IfSome result (λ command. IsCommand (kind ∷ []) command) }
+    ensures only { (command : Command) → IsCommand (kind ∷ []) command → result ≡ Some command }
+{
+    match kind {
+        b'f' => Some(Command::Flush),
+        b's' => Some(Command::Scan),
+        b't' => Some(Command::Stat),
+        b'.' => Some(Command::Tick),
+        _ => None,
+    }
 }

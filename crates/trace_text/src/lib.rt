@@ -10,13 +10,13 @@ mod fields;
 mod kinds;
 mod line_buf;
 mod number;
-mod parse;
+mod parsing;
 mod reply;
 mod texts;
 
 pub use command::Command;
 pub use line_buf::LineBuf;
 pub use number::read_number;
-pub use parse::Bad;
+pub use parsing::{Bad, parse};
 pub use reply::{Halt, Reply, ScanReport, Stat};
 pub use texts::reply_text;

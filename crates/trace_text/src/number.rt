@@ -39,11 +39,7 @@ pub fn read_number(text: &[u8], limit: u64) -> Option<u64>
     let Some(number) = plain_number(text) else {
         return None;
     };
-    if number <= limit {
-        Some(number)
-    } else {
-        None
-    }
+    if number <= limit { Some(number) } else { None }
 }
 
 // The text begins as a number does: with some byte, and with a zero only where the zero is all of it.

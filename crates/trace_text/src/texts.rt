@@ -1,5 +1,6 @@
 // The texts of commands and replies.
 #![tactic(auto, unfolding(crate::specs::Texts::reply_words, crate::specs::Texts::halt_words))]
+
 ghost use Rattle.std.specs.Prelude.{◌≡◌, ◌+◌, ◌≤◌, ◌++◌, length};
 ghost use Rattle.trace_text.specs.Texts.{halt_words, reply_words, text_of};
 

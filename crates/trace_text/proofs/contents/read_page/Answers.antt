@@ -1,6 +1,6 @@
-use Rattle.std.proofs.Common.{Some, ◌≡◌, sym, ap, ◌∙◌, List, ℕ, ◌++◌, drop, subst, refl, arith}
+use Rattle.std.proofs.Common.{Some, ◌≡◌, ap, ◌∙◌, List, ℕ, ◌++◌, drop}
 use Rattle.page_device.specs.Block.{zero_block}
-use Rattle.trace_text.proofs.Filled.{fills_decodes, fills_fits, fills_front, fills_one}
+use Rattle.trace_text.proofs.Filled.{fills_fits, fills_front, fills_one}
 use Rattle.trace_text.specs.Grammar.{Fills}
 use Rattle.trace_text.proofs.contents.read_page.Goals as goal
 

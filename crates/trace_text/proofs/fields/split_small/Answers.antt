@@ -1,4 +1,3 @@
-use Rattle.std.proofs.Common.{Some, None, ◌≡◌, ◌∙◌, sym}
 use Rattle.trace_text.proofs.Split.{space_of, split_only, split_read}
 use Rattle.trace_text.proofs.fields.split_small.Goals as goal
 
