@@ -15,7 +15,7 @@ cut_before-some byte [] last = refl
 cut_before-some byte (next ∷ rest) last = refl
 
 -- the last byte, which is not zero, stays
-cut_before-last : (last : ℕ) → (last ≡ 0 → ⊥) → cut_before last [] ≡ last ∷ []
+pub cut_before-last : (last : ℕ) → (last ≡ 0 → ⊥) → cut_before last [] ≡ last ∷ []
 cut_before-last last not_zero = grind (arith)
 
 -- another byte at the end stays, and all before it

@@ -50,6 +50,22 @@ pub fn put_hex_or_dash(page: &Page, into: &mut LineBuf)
     }
 }
 
+// Appends the bytes of a page without the zeros at its end, but at least one. The digits fill the page.
+pub fn put_hex_of_some(page: &[u8], into: &mut LineBuf)
+    requires page { length page.now ≡ 4096 }
+    requires room { length into.old + 8192 ≤ 8240 }
+    ensures text { into.new ≡ into.old ++ hex_of_some (trimmed page.now) }
+    ensures length { length into.new ≤ length into.old + 8192 }
+    ensures fills { Fills (hex_of_some (trimmed page.now)) page.now }
+{
+    let front = without_zeros(page);
+    if front.is_empty() {
+        into.put(b"00");
+    } else {
+        put_hex(front, into);
+    }
+}
+
 // Puts the bytes that digits write at the front of others. Where a byte is no digit the front is
 // unspecified.
 fn decode_front(digits: &[u8], bytes: &mut [u8], count: usize) -> bool

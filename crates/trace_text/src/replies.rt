@@ -1,4 +1,4 @@
-// The texts of commands and replies.
+// The texts of replies.
 #![tactic(auto, unfolding(crate::specs::Texts::reply_words, crate::specs::Texts::halt_words))]
 
 ghost use Rattle.std.specs.Prelude.{◌≡◌, ◌+◌, ◌≤◌, ◌++◌, length};

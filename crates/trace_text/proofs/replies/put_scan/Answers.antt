@@ -1,6 +1,6 @@
 use Rattle.std.proofs.Common.{append_assoc}
 use Rattle.trace_text.specs.Texts.{reply_words}
-use Rattle.trace_text.proofs.texts.put_scan.Goals as goal
+use Rattle.trace_text.proofs.replies.put_scan.Goals as goal
 
 pub returns-clause-text : goal.returns-clause-text
 unfolding reply_words
