@@ -4,3 +4,4 @@ pub mod Filled
 pub mod Split
 pub mod Only
 pub mod Shapes
+pub mod Lengths

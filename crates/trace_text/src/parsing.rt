@@ -1,5 +1,5 @@
 // Lines as commands.
-ghost use Rattle.std.specs.Prelude.{◌≡◌, ℕ, ◌<◌, ◌≤◌, ◌^◌, [], ◌∷◌, ◌++◌, List, codes, decimal, Some, Ok, IfOk, IfSome, OnErr, IsTrue, ◌↔◌, length, slice_index};
+ghost use Rattle.std.specs.Prelude.{◌≡◌, ℕ, ◌<◌, ◌≤◌, ◌^◌, [], ◌∷◌, ◌++◌, List, codes, decimal, Some, Ok, IfOk, IfSome, OnErr, OnOk, IsTrue, ◌↔◌, length, slice_index};
 ghost use Rattle.trace_text.specs.Grammar.{IsBadLine, IsCommand};
 ghost use Rattle.trace_text.specs.declared.command.Command.{Command};
 
@@ -32,12 +32,14 @@ fn line_command(line: &[u8]) -> Option<Command>
 }
 
 /// Reads a line, without its LF. Answers `Bad` exactly where the line is no command of the trace
-/// language (`docs/FORMAT.md`). Whether a block is in range is not asked here. Takes no memory. Linear
-/// in the line.
+/// language (`docs/FORMAT.md`), as is each line of more than 8205 bytes. Whether a block is in range is
+/// not asked here. Takes no memory. Linear in the line.
+#[tactic(auto, using(crate::proofs::Lengths::line_short))]
 pub fn parse(line: &[u8]) -> Result<Command, Bad>
     ensures read { IfOk result (λ command. IsCommand line.now command) }
     ensures only { (command : Command) → IsCommand line.now command → result ≡ Ok command }
     ensures bad { OnErr result (IsBadLine line.now) }
+    ensures short { OnOk result (length line.now ≤ 8205) }
 {
     line_command(line).ok_or(Bad)
 }
