@@ -1,6 +1,6 @@
 -- What the lines of all commands have in common.
 use Rattle.std.proofs.Common.{◌≡◌, ℕ, ◌≤◌, ◌⊎◌, inl, inr, List, [], ◌∷◌, length, get_or, refl, ap, arith}
-use Rattle.trace_text.specs.Grammar.{IsCommand}
+use Rattle.trace_text.specs.Grammar.{HasLine, IsCommand}
 use Rattle.trace_text.specs.Texts.{line_of}
 use Rattle.trace_text.specs.declared.command.Command.{Command}
 use Rattle.trace_text.specs.declared.command.Command.TheVariants.{Write, Fill, Read, Discard, Copy, Flush, Scan, Stat, Policy, Tune, Tick}
@@ -30,3 +30,18 @@ has_kind line Stat h = one_byte line _ h
 has_kind line (Policy label) h = with_fields line _ _ h.0
 has_kind line (Tune n) h = with_fields line _ _ h.0
 has_kind line Tick h = one_byte line _ h
+
+-- a command with a line can be printed
+pub has_line : (line : List ℕ) (command : Command) → IsCommand line command → HasLine command
+unfolding IsCommand line_of
+has_line line (Copy from to n) h = h.3
+has_line line (Write block number) h = tt
+has_line line (Fill block page) h = tt
+has_line line (Read block) h = tt
+has_line line (Discard block) h = tt
+has_line line Flush h = tt
+has_line line Scan h = tt
+has_line line Stat h = tt
+has_line line (Policy label) h = tt
+has_line line (Tune n) h = tt
+has_line line Tick h = tt

@@ -22,3 +22,6 @@ pub use number::read_number;
 pub use parsing::{Bad, parse};
 pub use replies::reply_text;
 pub use reply::{Halt, Reply, ScanReport, Stat};
+
+#[cfg(test)]
+mod tests;
