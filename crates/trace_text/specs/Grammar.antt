@@ -1,5 +1,5 @@
 -- Which lines are commands, by cases on the command and apart from any parser.
-use Rattle.std.specs.Prelude.{◌≡◌, ℕ, ◌+◌, ◌-◌, ◌*◌, ◌^◌, ◌<◌, ◌≤◌, List, ◌++◌, length, replicate, codes, decimal, Ok}
+use Rattle.std.specs.Prelude.{◌≡◌, ℕ, ◌-◌, ◌^◌, ◌<◌, ◌≤◌, List, ◌++◌, length, replicate, codes, decimal, Ok}
 use Rattle.hex.specs.Hex.{decode_of}
 use Rattle.page_device.specs.Block.{Block}
 use Rattle.trace_text.specs.declared.command.Command.{Command}
@@ -38,3 +38,17 @@ IsCommand line Tick = line ≡ line_of Tick
 -- no command has this line
 abbrev pub IsBadLine : List ℕ → Type 0
 IsBadLine line = (command : Command) → ¬ IsCommand line command
+
+-- the command has a line: only a copy of no block has none
+abbrev pub HasLine : Command → Type 0
+HasLine (Write block number) = Unit {0}
+HasLine (Fill block page) = Unit {0}
+HasLine (Read block) = Unit {0}
+HasLine (Discard block) = Unit {0}
+HasLine (Copy from to n) = 1 ≤ n
+HasLine Flush = Unit {0}
+HasLine Scan = Unit {0}
+HasLine Stat = Unit {0}
+HasLine (Policy label) = Unit {0}
+HasLine (Tune n) = Unit {0}
+HasLine Tick = Unit {0}

@@ -1,12 +1,8 @@
 -- What commands and replies read.
-use Rattle.std.specs.Prelude.{ℕ, Bool, true, false, ◌==◌, if◌then◌else◌, List, [], ◌∷◌, ◌++◌, codes, decimal}
+use Rattle.std.specs.Prelude.{ℕ, ◌==◌, if◌then◌else◌, List, [], ◌∷◌, ◌++◌, codes, decimal}
 use Rattle.hex.specs.Hex.{encode_lower}
-use Rattle.page_device.specs.Block.{Block}
-use Rattle.page_device.specs.declared.error.Damage.{Damage}
 use Rattle.trace_text.specs.declared.command.Command.{Command}
 use Rattle.trace_text.specs.declared.command.Command.TheVariants.{Write, Fill, Read, Discard, Copy, Flush, Scan, Stat, Policy, Tune, Tick}
-use Rattle.trace_text.specs.declared.reply.Stat.{Stat as Numbers}
-use Rattle.trace_text.specs.declared.reply.ScanReport.{ScanReport}
 use Rattle.trace_text.specs.declared.reply.Halt.{Halt}
 use Rattle.trace_text.specs.declared.reply.Halt.TheVariants as halt
 use Rattle.trace_text.specs.declared.reply.Reply.{Reply}

@@ -5,9 +5,23 @@
 #![tactic(auto)]
 
 mod command;
+mod contents;
+mod fields;
+mod kinds;
 mod line_buf;
+mod lines;
+mod number;
+mod parsing;
+mod replies;
 mod reply;
 
 pub use command::Command;
 pub use line_buf::LineBuf;
+pub use lines::command_text;
+pub use number::read_number;
+pub use parsing::{Bad, parse};
+pub use replies::reply_text;
 pub use reply::{Halt, Reply, ScanReport, Stat};
+
+#[cfg(test)]
+mod tests;
