@@ -188,6 +188,7 @@ impl Store {
         from: &Page,
     ) -> Result<(), Refusal>
         requires { total self.old.tables.shape ≤ (D.seen device.old).pages }
+        ensures pages { (D.seen device.new).pages ≡ (D.seen device.old).pages }
         ensures never_falls { (D.seen device.old).faults ≤ (D.seen device.new).faults }
         ensures range { self.old.tables.shape.blocks ≤ block → result ≡ Err Refusal.Range }
         ensures cause { IfErr result (λ why. WriteCause why block self.old (D.seen device.old) (D.seen device.new)) }
@@ -222,6 +223,7 @@ impl Store {
         into: &mut Page,
     ) -> Result<(), Refusal>
         requires { total self.old.tables.shape ≤ (D.seen device.old).pages }
+        ensures pages { (D.seen device.new).pages ≡ (D.seen device.old).pages }
         ensures never_falls { (D.seen device.old).faults ≤ (D.seen device.new).faults }
         ensures range { self.old.tables.shape.blocks ≤ block → result ≡ Err Refusal.Range }
         ensures cause { IfErr result (λ why. ReadCause why block self.old (D.seen device.old) (D.seen device.new)) }
@@ -252,6 +254,7 @@ impl Store {
     /// Looks at one flag a map page, and writes those that are pending.
     pub fn flush<D: Device>(&mut self, device: &mut D) -> Result<(), Failed>
         requires { total self.old.tables.shape ≤ (D.seen device.old).pages }
+        ensures pages { (D.seen device.new).pages ≡ (D.seen device.old).pages }
         ensures cause { HasCause result (D.seen device.old) (D.seen device.new) }
         ensures shape { self.new.tables.shape ≡ self.old.tables.shape }
         ensures array { (mode : Mode) (a : BlockArray) → StandsFor mode self.old (D.seen device.old) a
@@ -278,6 +281,7 @@ impl Store {
     fn settle<D: Device>(&mut self, device: &mut D, index: u32) -> Result<(), Failed>
         requires index { index < map_pages self.old.tables.shape }
         requires room { total self.old.tables.shape ≤ (D.seen device.old).pages }
+        ensures pages { (D.seen device.new).pages ≡ (D.seen device.old).pages }
         ensures cause { HasCause result (D.seen device.old) (D.seen device.new) }
         ensures settles { Settles index result self.old self.new (D.seen device.old) (D.seen device.new) }
     {
@@ -299,6 +303,7 @@ impl Store {
         requires first { 1 ≤ p }
         requires last { p ≤ self.old.tables.shape.pages }
         requires room { total self.old.tables.shape ≤ (D.seen device.old).pages }
+        ensures pages { (D.seen device.new).pages ≡ (D.seen device.old).pages }
         ensures cause { HasCause result (D.seen device.old) (D.seen device.new) }
         ensures tables { self.new.tables ≡ self.old.tables }
         ensures puts { PutsCounted (data_page self.old.tables.shape p) from.now result (D.seen device.old) (D.seen device.new) self.old.calls self.new.calls }
@@ -350,6 +355,7 @@ impl Store {
         requires last { p ≤ self.old.tables.shape.pages }
         requires free { cached_count self.old.tables p ≡ 0 }
         requires room { total self.old.tables.shape ≤ (D.seen device.old).pages }
+        ensures pages { (D.seen device.new).pages ≡ (D.seen device.old).pages }
         ensures cause { HasCause result (D.seen device.old) (D.seen device.new) }
         ensures counts { CountsOne p result self.old self.new (D.seen device.old) (D.seen device.new) }
     {
@@ -375,6 +381,7 @@ impl Store {
         requires block { block < self.old.tables.shape.blocks }
         requires last { p ≤ self.old.tables.shape.pages }
         requires room { total self.old.tables.shape ≤ (D.seen device.old).pages }
+        ensures pages { (D.seen device.new).pages ≡ (D.seen device.old).pages }
         ensures never_falls { (D.seen device.old).faults ≤ (D.seen device.new).faults }
         ensures names { NamesOne block p self.old self.new (D.seen device.old) (D.seen device.new) }
     {

@@ -1,2 +1,0 @@
--- Lines, and runs that answer them.
-use Rattle.std.specs.Prelude.{◌≡◌, ℕ, List}

@@ -1,0 +1,11 @@
+//! Sessions: an image is opened, lines are answered, and the session closes.
+//!
+//! `run` is the call that the program makes. Its contract is the promise of the whole project for the
+//! commands that are built: `specs/Session.antt`.
+#![tactic(auto)]
+
+mod commands;
+mod turns;
+
+pub use commands::command;
+pub use turns::turn;
