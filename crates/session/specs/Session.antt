@@ -1,5 +1,5 @@
 -- What a session has done: over each array for which the store stood when it began.
-use Rattle.std.specs.Prelude.{◌≡◌, ◌≢◌, ◌⊎◌, ℕ, ◌+◌, ◌<◌, ◌≤◌, ◌^◌, true, List, [], ◌∷◌, ◌++◌, length, take}
+use Rattle.std.specs.Prelude.{◌≡◌, ◌≢◌, ◌⊎◌, ℕ, ◌+◌, ◌<◌, ◌≤◌, ◌^◌, true, List, [], ◌∷◌, ◌++◌, length, take, Result, Ok, Err}
 use Rattle.byte_ports.specs.Sink.{SinkMeaning, Takes, TakesFront}
 use Rattle.page_device.specs.declared.device.LogEntry.{LogEntry}
 use Rattle.page_device.specs.Disk.{DeviceState, state_after}
@@ -73,3 +73,19 @@ pub record CutShort (s : Start) (bytes : List ℕ) (core : CoreView) (d : Meanin
   pub whole : SinkMeaning
   pub put : Takes (texts turns) s.sink whole
   pub part : TakesFront (text_of last.at last.answer) whole sink
+
+-- the same, where the line that is begun is kept
+pub record SoFarWith (s : Start) (bytes line : List ℕ) (core : CoreView) (d : Meaning) (sink : SinkMeaning) : Type 0 where
+  pub begun : List ℕ
+  pub is : line ≡ kept begun
+  pub so_far : SoFar s bytes begun core d sink
+
+-- after these further bytes: they were answered, or a text could not be put
+abbrev pub GoneOn : {E : Type 0} → Result Unit E → Start → List ℕ → List ℕ → CoreView → Meaning → SinkMeaning → Type 0
+GoneOn (Ok _) s bytes line core d sink = SoFarWith s bytes line core d sink
+GoneOn (Err _) s bytes line core d sink = CutShort s bytes core d sink
+
+-- a session goes on by these bytes
+abbrev pub Goes : {E : Type 0} → Start → List ℕ → List ℕ → Result Unit E → List ℕ → List ℕ → CoreView → CoreView → Meaning → Meaning → SinkMeaning → SinkMeaning → Type 0
+Goes s bytes more result line line' core core' d d' sink sink' =
+    s.device.tells_pages ≡ true → SoFarWith s bytes line core d sink → GoneOn result s (bytes ++ more) line' core' d' sink'

@@ -5,6 +5,8 @@
 #![tactic(auto)]
 
 mod commands;
+mod line;
+mod serve;
 mod turns;
 
 pub use commands::command;
