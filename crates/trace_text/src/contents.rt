@@ -8,7 +8,8 @@ ghost use Rattle.trace_text.specs.Grammar.{Fills};
 ghost use Rattle.trace_text.specs.Texts.{hex_of_some, hex_or_dash, trimmed};
 
 use crate::LineBuf;
-use hex::{decode_to_slice, encode_to_slice};
+use crate::digits::decode_into;
+use hex::encode_to_slice;
 use page_device::Page;
 
 // The bytes without the zeros at their end.
@@ -74,7 +75,7 @@ fn decode_front(digits: &[u8], bytes: &mut [u8], count: usize) -> bool
     ensures some { result ≡ true → (front : List ℕ) × (decode_of digits.now ≡ Ok front) × (length front ≡ count) × (bytes.new ≡ front ++ drop count bytes.old) }
     ensures none { result ≡ false → IsErr (decode_of digits.now) }
 {
-    decode_to_slice(digits, &mut bytes[..count]).is_ok()
+    decode_into(digits, &mut bytes[..count])
 }
 
 // How many bytes digits write, where they are 1 to 4096.
