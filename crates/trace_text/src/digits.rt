@@ -1,5 +1,6 @@
-// Hexadecimal digits as bytes. The kit's `hex` says what they mean. The loop is here, with a table: a
-// branch for each digit costs more than twice as much, since no processor can foresee contents.
+// Hexadecimal digits as bytes, as `hex` says what they mean. The loop stands here, over a table, since
+// the branches that `hex` takes for each digit follow the contents, which no processor can foresee: a
+// full page takes four times as long (docs/PERFORMANCE.md).
 ghost use Rattle.std.specs.Prelude.{◌≡◌, ◌+◌, ◌*◌, ◌<◌, length, true, false, unwrap_or, Ok, IsErr};
 ghost use Rattle.hex.specs.Hex.{decode_of, hex_digit_value};
 
