@@ -1,7 +1,7 @@
 // Hexadecimal digits as bytes, as `hex` says what they mean. The loop stands here, over a table, since
 // the branches that `hex` takes for each digit follow the contents, which no processor can foresee: a
 // full page takes four times as long (docs/PERFORMANCE.md).
-ghost use Rattle.std.specs.Prelude.{◌≡◌, ◌+◌, ◌*◌, ◌<◌, length, true, false, unwrap_or, Ok, IsErr};
+ghost use Rattle.std.specs.Prelude.{◌≡◌, ◌*◌, length, true, false, unwrap_or, Ok, IsErr};
 ghost use Rattle.hex.specs.Hex.{decode_of, hex_digit_value};
 
 // What the bytes from `0` to `f` are worth as digits; 255 is none.
