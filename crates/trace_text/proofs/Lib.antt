@@ -5,3 +5,4 @@ pub mod Split
 pub mod Only
 pub mod Shapes
 pub mod Lengths
+pub mod Pairs

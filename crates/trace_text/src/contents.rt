@@ -8,7 +8,8 @@ ghost use Rattle.trace_text.specs.Grammar.{Fills};
 ghost use Rattle.trace_text.specs.Texts.{hex_of_some, hex_or_dash, trimmed};
 
 use crate::LineBuf;
-use hex::{decode_to_slice, encode_to_slice};
+use crate::digits::decode_into;
+use hex::encode_to_slice;
 use page_device::Page;
 
 // The bytes without the zeros at their end.
@@ -71,10 +72,11 @@ pub fn put_hex_of_some(page: &[u8], into: &mut LineBuf)
 fn decode_front(digits: &[u8], bytes: &mut [u8], count: usize) -> bool
     requires digits { length digits.now ≡ 2 * count }
     requires room { count ≤ length bytes.old }
-    ensures some { result ≡ true → (front : List ℕ) × (decode_of digits.now ≡ Ok front) × (length front ≡ count) × (bytes.new ≡ front ++ drop count bytes.old) }
+    ensures some { result ≡ true → (front : List ℕ) × (decode_of digits.now ≡ Ok front)
+        × (length front ≡ count) × (bytes.new ≡ front ++ drop count bytes.old) }
     ensures none { result ≡ false → IsErr (decode_of digits.now) }
 {
-    decode_to_slice(digits, &mut bytes[..count]).is_ok()
+    decode_into(digits, &mut bytes[..count])
 }
 
 // How many bytes digits write, where they are 1 to 4096.
@@ -82,7 +84,7 @@ fn bytes_of(digits: &[u8]) -> Option<usize>
     ensures { SomeIff result (FitsPage (length digits.now)) (length digits.now / 2) }
 {
     let count = digits.len() / 2;
-    if digits.len() == 2 * count && 1 <= count && count <= 4096 {
+    if digits.len() == 2 * count && (1..=4096).contains(&count) {
         Some(count)
     } else {
         None

@@ -1,4 +1,4 @@
-// The fields of a line.
+// The fields of a line, which a space ends.
 ghost use Rattle.std.specs.Prelude.{◌≡◌, ℕ, ◌<◌, ◌^◌, List, decimal, Some, IfSome, MatchOption, position, ◌==◌};
 ghost use Rattle.trace_text.specs.Fields.{before_rest};
 

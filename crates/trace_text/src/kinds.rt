@@ -15,7 +15,9 @@ use crate::number::read_number;
 // What follows `w `.
 fn write(text: &[u8]) -> Option<Command>
     ensures read { IfSome result (λ command. IsCommand (codes "w " ++ text.now) command) }
-    ensures only { (block number : ℕ) → block < 2 ^ 32 → number < 2 ^ 64 → text.now ≡ before_rest block (decimal number) → result ≡ Some (Command.Write block number) }
+    ensures only { (block number : ℕ) → block < 2 ^ 32 → number < 2 ^ 64
+        → text.now ≡ before_rest block (decimal number)
+        → result ≡ Some (Command.Write block number) }
 {
     let (block, rest) = split_small(text)?;
     let number = read_number(rest, u64::MAX)?;
@@ -25,7 +27,9 @@ fn write(text: &[u8]) -> Option<Command>
 // What follows `x `.
 fn fill(text: &[u8]) -> Option<Command>
     ensures read { IfSome result (λ command. IsCommand (codes "x " ++ text.now) command) }
-    ensures only { (block : ℕ) (digits : List ℕ) (page : Block) → block < 2 ^ 32 → text.now ≡ before_rest block digits → Fills digits page → result ≡ Some (Command.Fill block page) }
+    ensures only { (block : ℕ) (digits : List ℕ) (page : Block) → block < 2 ^ 32
+        → text.now ≡ before_rest block digits → Fills digits page
+        → result ≡ Some (Command.Fill block page) }
 {
     let (block, digits) = split_small(text)?;
     let page = read_page(digits)?;
@@ -35,7 +39,8 @@ fn fill(text: &[u8]) -> Option<Command>
 // What follows `r `.
 fn read(text: &[u8]) -> Option<Command>
     ensures read { IfSome result (λ command. IsCommand (codes "r " ++ text.now) command) }
-    ensures only { (block : ℕ) → block < 2 ^ 32 → text.now ≡ decimal block → result ≡ Some (Command.Read block) }
+    ensures only { (block : ℕ) → block < 2 ^ 32 → text.now ≡ decimal block
+        → result ≡ Some (Command.Read block) }
 {
     let block = read_small(text)?;
     Some(Command::Read { block })
@@ -44,7 +49,8 @@ fn read(text: &[u8]) -> Option<Command>
 // What follows `d `.
 fn discard(text: &[u8]) -> Option<Command>
     ensures read { IfSome result (λ command. IsCommand (codes "d " ++ text.now) command) }
-    ensures only { (block : ℕ) → block < 2 ^ 32 → text.now ≡ decimal block → result ≡ Some (Command.Discard block) }
+    ensures only { (block : ℕ) → block < 2 ^ 32 → text.now ≡ decimal block
+        → result ≡ Some (Command.Discard block) }
 {
     let block = read_small(text)?;
     Some(Command::Discard { block })
@@ -53,7 +59,8 @@ fn discard(text: &[u8]) -> Option<Command>
 // What follows `p `.
 fn policy(text: &[u8]) -> Option<Command>
     ensures read { IfSome result (λ command. IsCommand (codes "p " ++ text.now) command) }
-    ensures only { (label : ℕ) → label < 2 ^ 32 → text.now ≡ decimal label → result ≡ Some (Command.Policy label) }
+    ensures only { (label : ℕ) → label < 2 ^ 32 → text.now ≡ decimal label
+        → result ≡ Some (Command.Policy label) }
 {
     let label = read_small(text)?;
     Some(Command::Policy { label })
@@ -62,7 +69,8 @@ fn policy(text: &[u8]) -> Option<Command>
 // What follows `n `.
 fn tune(text: &[u8]) -> Option<Command>
     ensures read { IfSome result (λ command. IsCommand (codes "n " ++ text.now) command) }
-    ensures only { (n : ℕ) → n < 2 ^ 32 → text.now ≡ decimal n → result ≡ Some (Command.Tune n) }
+    ensures only { (n : ℕ) → n < 2 ^ 32 → text.now ≡ decimal n
+        → result ≡ Some (Command.Tune n) }
 {
     let n = read_small(text)?;
     Some(Command::Tune { n })
@@ -71,7 +79,9 @@ fn tune(text: &[u8]) -> Option<Command>
 // What follows `c `.
 fn copy(text: &[u8]) -> Option<Command>
     ensures read { IfSome result (λ command. IsCommand (codes "c " ++ text.now) command) }
-    ensures only { (from to n : ℕ) → from < 2 ^ 32 → to < 2 ^ 32 → 1 ≤ n → n < 2 ^ 32 → text.now ≡ before_rest from (before_rest to (decimal n)) → result ≡ Some (Command.Copy from to n) }
+    ensures only { (from to n : ℕ) → from < 2 ^ 32 → to < 2 ^ 32 → 1 ≤ n → n < 2 ^ 32
+        → text.now ≡ before_rest from (before_rest to (decimal n))
+        → result ≡ Some (Command.Copy from to n) }
 {
     let (from, rest) = split_small(text)?;
     let (to, rest) = split_small(rest)?;

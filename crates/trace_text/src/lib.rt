@@ -6,6 +6,7 @@
 
 mod command;
 mod contents;
+mod digits;
 mod fields;
 mod kinds;
 mod line_buf;

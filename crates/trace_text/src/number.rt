@@ -1,5 +1,5 @@
-// Decimal numbers at the front of a text and as a whole text.
-ghost use Rattle.std.specs.Prelude.{◌≡◌, ℕ, ◌+◌, ◌*◌, ◌^◌, ◌<◌, ◌≤◌, List, ◌++◌, codes, decimal, Some, IfSome, MatchOption, IsTrue, ◌↔◌};
+// Decimal numbers.
+ghost use Rattle.std.specs.Prelude.{◌≡◌, ℕ, ◌+◌, ◌*◌, ◌^◌, ◌<◌, ◌≤◌, ◌↔◌, IsTrue, IfSome, Some, decimal};
 ghost use Rattle.std.specs.Option.{SomeIff};
 ghost use Rattle.std.specs.Str.Parse.{AllDigits, digits_value};
 ghost use Rattle.trace_text.specs.Fields.{BeginsPlain};
@@ -14,7 +14,8 @@ fn with_digit(number: u64, digit: u32) -> Option<u64>
 
 // The number that decimal digits write, zeros in front included.
 fn digits_number(text: &[u8]) -> Option<u64>
-    ensures { SomeIff result (AllDigits 10 text.now × (digits_value 10 text.now < 2 ^ 64)) (digits_value 10 text.now) }
+    ensures { let value = digits_value 10 text.now
+        in SomeIff result (AllDigits 10 text.now × (value < 2 ^ 64)) value }
 {
     let mut number = 0;
     for &byte in text {

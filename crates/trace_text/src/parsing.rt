@@ -1,5 +1,5 @@
 // Lines as commands.
-ghost use Rattle.std.specs.Prelude.{◌≡◌, ℕ, ◌<◌, ◌≤◌, ◌^◌, [], ◌∷◌, ◌++◌, List, codes, decimal, Some, Ok, IfOk, IfSome, OnErr, OnOk, IsTrue, ◌↔◌, length, slice_index};
+ghost use Rattle.std.specs.Prelude.{◌≡◌, ◌≤◌, ◌↔◌, IsTrue, IfOk, IfSome, Ok, OnErr, OnOk, Some, length, slice_index};
 ghost use Rattle.trace_text.specs.Grammar.{IsBadLine, IsCommand};
 ghost use Rattle.trace_text.specs.declared.command.Command.{Command};
 

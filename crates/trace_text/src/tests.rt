@@ -1,5 +1,5 @@
 // Rows of the trace language: lines and what they read as, and the text of each reply.
-use crate::{Halt, LineBuf, Reply, ScanReport, Stat, command_text, parse, reply_text};
+use crate::{Halt, LineBuf, Reply, ScanReport, Stat, command_text, parse, read_number, reply_text};
 use page_device::{Damage, Page};
 
 // The line that a line is read as, with its LF, or no bytes where it is bad.
@@ -35,6 +35,13 @@ fn lines_are_commands(rt: HostRuntime) {
     ] {
         assert_eq!(rt; read_as(line).bytes(), same);
     }
+}
+
+#[test]
+fn numbers_have_a_limit(rt: HostRuntime) {
+    assert_eq!(rt; read_number(b"4096", 4096), Some(4096));
+    assert_eq!(rt; read_number(b"4097", 4096), None);
+    assert_eq!(rt; read_number(b"0", 0), Some(0));
 }
 
 #[test]

@@ -3,7 +3,7 @@
 //! `specs/Generated.antt` says which command comes at each place.
 #![tactic(auto)]
 
-ghost use Rattle.std.specs.Prelude.{◌≡◌, ℕ, ◌+◌, ◌*◌, ◌/◌, ◌%◌, ◌≤◌, ◌^◌};
+ghost use Rattle.std.specs.Prelude.{◌≡◌, ◌≤◌};
 ghost use Rattle.workload.specs.Generated.{IsGenerated, command_of, generated, mixed};
 
 use trace_text::Command;
