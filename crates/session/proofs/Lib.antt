@@ -1,3 +1,4 @@
 pub mod Done
 pub mod More
 pub mod Bytes
+pub mod Readings

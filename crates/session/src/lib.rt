@@ -6,8 +6,11 @@
 
 mod commands;
 mod line;
+mod reading;
 mod serve;
+mod status;
 mod turns;
 
 pub use commands::command;
+pub use status::Status;
 pub use turns::turn;
