@@ -47,7 +47,7 @@ nothing_after x = refl
 
 module _ (s : Start) where
   -- one more work, which a call of the store was
-  did_more : (works : List Work) (work : Work) (core later : CoreView) (d e : Meaning) (a : BlockArray) (written : ℕ → Option Block) → Did s works d → s.device.tells_pages ≡ true
+  pub did_more : (works : List Work) (work : Work) (core later : CoreView) (d e : Meaning) (a : BlockArray) (written : ℕ → Option Block) → Did s works d → s.device.tells_pages ≡ true
       → core.tables.shape ≡ s.store.tables.shape → later.tables.shape ≡ s.store.tables.shape → (call : StoreCall s.mode core later d e (array_done s works) a written)
       → calls_of work ≡ call.leaves.calls → array_after_work (start_rules s) (array_done s works) work ≡ a → work_writes (array_done s works) (Some work) ≡ written → Did s (works ++ work ∷ []) e
   did_more works work core later d e a written did tells same_core same_later call is_calls is_array is_written =

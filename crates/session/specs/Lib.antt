@@ -1,4 +1,5 @@
 pub mod Answers
+pub mod Endings
 pub mod Reading
 pub mod Session
 pub mod Statuses

@@ -5,6 +5,7 @@
 #![tactic(auto)]
 
 mod commands;
+mod ending;
 mod line;
 mod reading;
 mod serve;

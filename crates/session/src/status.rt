@@ -1,5 +1,10 @@
 // How a session ends.
-ghost use Rattle.std.specs.Prelude.{◌≡◌};
+ghost use Rattle.std.specs.Prelude.{◌≡◌, ◌≤◌, ◌<◌, ◌+◌, ◌^◌};
+ghost use Rattle.session.specs.Endings.{LastPut};
+ghost use Rattle.session.specs.Statuses.{last_text};
+ghost use Rattle.session.specs.declared.status.Status.TheVariants.{SinkFault};
+
+use byte_ports::{Sink, put_all};
 
 /// How a session ended. The number of each is the program's exit status.
 #[derive(Clone, Copy, Debug, PartialEq, Eq, Drop)]
@@ -39,5 +44,32 @@ impl Status {
             Status::NoMemory => 7,
             Status::InputLimit => 8,
         }
+    }
+}
+
+// The last line that a session puts.
+fn last_text(status: Status) -> &'static [u8]
+    ensures { result.now ≡ last_text status }
+{
+    match status {
+        Status::SourceFault => b"source fault\n",
+        Status::DeviceFault => b"device fault\n",
+        Status::BadImage => b"not formatted\n",
+        Status::NoMemory => b"no memory\n",
+        Status::InputLimit => b"input limit\n",
+        Status::Done | Status::Usage | Status::SinkFault => b"",
+    }
+}
+
+/// Puts the last line of a status. The status is the sink's where that fails. One call of `put_all`.
+pub fn end_with<K: Sink>(wanted: Status, sink: &mut K) -> Status
+    ensures never_falls { (K.seen sink.old).faults ≤ (K.seen sink.new).faults }
+    ensures cause { result ≡ SinkFault → ¬ (wanted ≡ SinkFault) → (K.seen sink.old).faults + 1 < 2 ^ 64 → (K.seen sink.old).faults < (K.seen sink.new).faults }
+    ensures status { ¬ (result ≡ SinkFault) → result ≡ wanted }
+    ensures put { LastPut wanted result (K.seen sink.old) (K.seen sink.new) }
+{
+    match put_all(sink, last_text(wanted)) {
+        Ok(()) => wanted,
+        Err(_) => Status::SinkFault,
     }
 }
