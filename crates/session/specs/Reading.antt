@@ -33,6 +33,12 @@ pub record Reads (why : Stop) (line line' : List ℕ) (core core' : CoreView) (d
   pub ended : why ≡ stop.End → source'.tells ≡ true → source'.left ≡ []
   pub limit : why ≡ stop.Limit → length bytes ≡ input_limit
 
+-- as many bytes were taken as one session may take
+pub record TakesAll (source source' : SourceMeaning) : Type 0 where
+  pub bytes : List ℕ
+  pub gives : Gives bytes source source'
+  pub many : length bytes ≡ input_limit
+
 -- the same, while it goes on
 pub record ReadsOn (line line' : List ℕ) (core core' : CoreView) (d d' : Meaning) (source source' : SourceMeaning) (sink sink' : SinkMeaning) (left : ℕ) : Type 0 where
   pub bytes : List ℕ

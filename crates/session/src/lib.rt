@@ -9,9 +9,11 @@ mod ending;
 mod line;
 mod reading;
 mod serve;
+mod session;
 mod status;
 mod turns;
 
 pub use commands::command;
+pub use session::serve_trace;
 pub use status::Status;
 pub use turns::turn;

@@ -1,0 +1,54 @@
+-- The closing flush, and what a session has done when it ends.
+use Rattle.std.proofs.Common.{◌≡◌, ℕ, ◌+◌, ◌<◌, ◌^◌, true, false, List, [], ◌∷◌, ◌++◌, length, refl, sym, ◌∙◌, ap, subst, arith, Result, Ok, Err}
+use Rattle.byte_ports.specs.Source.{SourceMeaning}
+use Rattle.byte_ports.specs.Sink.{SinkMeaning, Takes}
+use Rattle.page_device.specs.Meaning.{Meaning}
+use Rattle.array_model.specs.Images.{left_mode}
+use Rattle.array_model.specs.Array.{flushed, writes_nothing}
+use Rattle.array_model.specs.Turns.{Turn, Work, closing, IsRun, lines_of, texts, works_of, survives}
+use Rattle.dedup_writer.specs.Core.{CoreView}
+use Rattle.dedup_writer.specs.Calls.{StoreCall}
+use Rattle.session.specs.declared.status.Status.{Status}
+use Rattle.session.specs.declared.status.Status.TheVariants.{Done, SourceFault, SinkFault, DeviceFault, InputLimit}
+use Rattle.session.specs.Session.{Start, start_rules, start_state, array_done, Did, Ran, SoFar, SoFarWith, CutShort}
+use Rattle.session.specs.Reading.{input_limit}
+use Rattle.session.specs.Endings.{AllAnswered, LastPut, TextsPut, SomeRead, TextCut, Ended, all_done, closing_failed, source_failed, limit_reached, sink_failed, Closed, Served}
+use Rattle.session.proofs.More.{did_more}
+
+module _ (s : Start) (bytes : List ℕ) (core later : CoreView) (d e : Meaning) (sink : SinkMeaning) (tells : s.device.tells_pages ≡ true) (all : AllAnswered s bytes core d sink) (same : later.tables.shape ≡ core.tables.shape) where
+  abbrev works : List Work
+  works = works_of all.turns
+
+  -- everything is on the device
+  pub closed_well : StoreCall s.mode core later d e (array_done s works) (flushed (array_done s works)) writes_nothing → Closed s bytes Done later e sink
+  closed_well call = record {
+    turns = all.turns;
+    run = λ few. all.ran.run (omega (arith, few, call.counted.never_falls));
+    works = works ++ closing true call.leaves.calls ∷ [];
+    did = did_more s works (closing true call.leaves.calls) core later d e (flushed (array_done s works)) writes_nothing all.ran.did tells all.ran.shape (same ∙ all.ran.shape) call refl refl refl;
+    ended = λ source nothing. all_done call.leaves.calls refl (record { lines = all.lines; nothing_left = nothing }) refl all.put;
+  }
+
+  -- the device failed
+  pub closed_by_fault : (status : Status) (put : SinkMeaning) → StoreCall s.mode core later d e (array_done s works) (array_done s works) writes_nothing → LastPut DeviceFault status sink put → Closed s bytes status later e put
+  closed_by_fault status put call last = record {
+    turns = all.turns;
+    run = λ few. all.ran.run (omega (arith, few, call.counted.never_falls));
+    works = works ++ closing false call.leaves.calls ∷ [];
+    did = did_more s works (closing false call.leaves.calls) core later d e (array_done s works) writes_nothing all.ran.did tells all.ran.shape (same ∙ all.ran.shape) call refl refl refl;
+    ended = λ source nothing. closing_failed call.leaves.calls (record { lines = all.lines; nothing_left = nothing }) refl (record { after_texts = sink; put = all.put; last_line = last });
+  }
+
+module _ (s : Start) (bytes : List ℕ) (core : CoreView) (d : Meaning) (sink : SinkMeaning) where
+  -- the text of a turn could not be put
+  cut_is : (c : CutShort s bytes core d sink) → TextCut bytes (c.turns ++ c.last ∷ []) s.sink sink
+  cut_is c = record { before = c.turns; last = c.last; turns_are = refl; rest = c.rest; split = c.split; after_texts = c.whole; put = c.put; part = c.part }
+
+  pub closed_by_cut : CutShort s bytes core d sink → Closed s bytes SinkFault core d sink
+  closed_by_cut c = record {
+    turns = c.turns ++ c.last ∷ [];
+    run = c.ran.run;
+    works = works_of (c.turns ++ c.last ∷ []);
+    did = c.ran.did;
+    ended = λ source nothing. sink_failed (cut_is c) refl refl;
+  }
