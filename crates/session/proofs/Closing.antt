@@ -1,6 +1,6 @@
 -- The closing flush, and what a session has done when it ends.
 use Rattle.std.proofs.Common.{◌≡◌, ℕ, ◌+◌, ◌<◌, ◌^◌, true, false, List, [], ◌∷◌, ◌++◌, length, refl, sym, ◌∙◌, ap, subst, arith, Result, Ok, Err}
-use Rattle.byte_ports.specs.Source.{SourceMeaning}
+use Rattle.byte_ports.specs.Source.{SourceMeaning, Gives}
 use Rattle.byte_ports.specs.Sink.{SinkMeaning, Takes}
 use Rattle.page_device.specs.Meaning.{Meaning}
 use Rattle.array_model.specs.Images.{left_mode}
@@ -9,10 +9,11 @@ use Rattle.array_model.specs.Turns.{Turn, Work, closing, IsRun, lines_of, texts,
 use Rattle.dedup_writer.specs.Core.{CoreView}
 use Rattle.dedup_writer.specs.Calls.{StoreCall}
 use Rattle.session.specs.declared.status.Status.{Status}
-use Rattle.session.specs.declared.status.Status.TheVariants.{Done, SourceFault, SinkFault, DeviceFault, InputLimit}
+use Rattle.session.specs.declared.status.Status.TheVariants.{Done, Usage, SourceFault, SinkFault, DeviceFault, BadImage, NoMemory, InputLimit}
 use Rattle.session.specs.Session.{Start, start_rules, start_state, array_done, Did, Ran, SoFar, SoFarWith, CutShort}
-use Rattle.session.specs.Reading.{input_limit}
-use Rattle.session.specs.Endings.{AllAnswered, LastPut, TextsPut, SomeRead, TextCut, Ended, all_done, closing_failed, source_failed, limit_reached, sink_failed, Closed, Served}
+use Rattle.session.specs.declared.reading.Stop.TheVariants as stop
+use Rattle.session.specs.Reading.{input_limit, Reads}
+use Rattle.session.specs.Endings.{AllAnswered, LastPut, TextsPut, SomeRead, TextCut, Ended, all_done, closing_failed, source_failed, limit_reached, sink_failed, Closed, ClosesAs, EndsAs, Served}
 use Rattle.session.proofs.More.{did_more}
 
 module _ (s : Start) (bytes : List ℕ) (core later : CoreView) (d e : Meaning) (sink : SinkMeaning) (tells : s.device.tells_pages ≡ true) (all : AllAnswered s bytes core d sink) (same : later.tables.shape ≡ core.tables.shape) where
@@ -51,4 +52,59 @@ module _ (s : Start) (bytes : List ℕ) (core : CoreView) (d : Meaning) (sink : 
     works = works_of (c.turns ++ c.last ∷ []);
     did = c.ran.did;
     ended = λ source nothing. sink_failed (cut_is c) refl refl;
+  }
+
+-- what a session that was read to its end does not end as
+pub closes_then : (status : Status) → ClosesAs status → EndsAs status
+closes_then Done h = tt
+closes_then SinkFault h = tt
+closes_then DeviceFault h = tt
+closes_then SourceFault h = absurd h
+closes_then InputLimit h = absurd h
+closes_then Usage h = absurd h
+closes_then BadImage h = absurd h
+closes_then NoMemory h = absurd h
+
+module _ (s : Start) (status : Status) (core : CoreView) (d : Meaning) (source source' : SourceMeaning) (sink : SinkMeaning) where
+  -- a closed session was served
+  pub served_closed : (bytes : List ℕ) → Gives bytes source source' → (source'.tells ≡ true → source'.left ≡ []) → Closed s bytes status core d sink → Served s status core d source source' sink
+  served_closed bytes gives nothing c = record {
+    bytes = bytes;
+    gives = gives;
+    turns = c.turns;
+    run = c.run;
+    works = c.works;
+    did = c.did;
+    survives = survives (left_mode s.mode) (start_rules s) s.array s.device.state c.works c.did.leave;
+    ended = c.ended source' nothing;
+  }
+
+  -- one that stopped between two lines was served
+  pub served_so_far : (sink' : SinkMeaning) (bytes line : List ℕ) → Gives bytes source source' → (w : SoFarWith s bytes line core d sink)
+      → (SomeRead bytes w.so_far.turns → Ended bytes w.so_far.turns (works_of w.so_far.turns) status source' s.sink sink') → Served s status core d source source' sink'
+  served_so_far sink' bytes line gives w ends =
+      let h = w.so_far in
+      record {
+        bytes = bytes;
+        gives = gives;
+        turns = h.turns;
+        run = h.ran.run;
+        works = works_of h.turns;
+        did = h.ran.did;
+        survives = survives (left_mode s.mode) (start_rules s) s.array s.device.state (works_of h.turns) h.ran.did.leave;
+        ended = ends (record { begun = w.begun; split = h.split; lines = h.lines; open_line = h.open_line });
+      }
+
+module _ (s : Start) (core : CoreView) (d : Meaning) (source source' : SourceMeaning) (sink : SinkMeaning) where
+  -- one of which a text could not be put was served
+  pub served_by_cut : (bytes : List ℕ) → Gives bytes source source' → CutShort s bytes core d sink → Served s SinkFault core d source source' sink
+  served_by_cut bytes gives c = record {
+    bytes = bytes;
+    gives = gives;
+    turns = c.turns ++ c.last ∷ [];
+    run = c.ran.run;
+    works = works_of (c.turns ++ c.last ∷ []);
+    did = c.ran.did;
+    survives = survives (left_mode s.mode) (start_rules s) s.array s.device.state (works_of (c.turns ++ c.last ∷ [])) c.ran.did.leave;
+    ended = sink_failed (cut_is s bytes core d sink c) refl refl;
   }

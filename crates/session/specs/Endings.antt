@@ -76,6 +76,13 @@ pub record Closed (s : Start) (bytes : List ℕ) (status : Status) (core : CoreV
   pub did : Did s works d
   pub ended : (source : SourceMeaning) → (source.tells ≡ true → source.left ≡ []) → Ended bytes turns works status source s.sink sink
 
+-- what a session may end as whose input was read to its end
+abbrev pub ClosesAs : Status → Type 0
+ClosesAs Done = Unit {0}
+ClosesAs SinkFault = Unit {0}
+ClosesAs DeviceFault = Unit {0}
+ClosesAs status = ⊥
+
 -- what a session over a store may end as
 abbrev pub EndsAs : Status → Type 0
 EndsAs Done = Unit {0}

@@ -3,7 +3,7 @@ ghost use Rattle.std.specs.Prelude.{◌≡◌, ℕ, ◌≤◌, ◌+◌, ◌<◌,
 ghost use Rattle.byte_ports.specs.Fault.{CountsFault};
 ghost use Rattle.page_layout.specs.Shape.{total};
 ghost use Rattle.session.specs.Session.{Start, SoFarWith};
-ghost use Rattle.session.specs.Endings.{RestAnswered, EndsAs, Closed};
+ghost use Rattle.session.specs.Endings.{RestAnswered, ClosesAs, Closed};
 ghost use Rattle.dedup_writer.specs.Calls.{FaultRose};
 
 use crate::line::Line;
@@ -42,10 +42,11 @@ pub fn close<K: Sink, D: Device>(
     sink: &mut K,
 ) -> Status
     requires { total store.old.tables.shape ≤ (D.seen device.old).pages }
+    ensures device_rises { (D.seen device.old).faults ≤ (D.seen device.new).faults }
     ensures sink_rises { (K.seen sink.old).faults ≤ (K.seen sink.new).faults }
     ensures sink_cause { result ≡ Status.SinkFault → (K.seen sink.old).faults + 1 < 2 ^ 64 → (K.seen sink.old).faults < (K.seen sink.new).faults }
     ensures device_cause { result ≡ Status.DeviceFault → FaultRose (D.seen device.old) (D.seen device.new) }
-    ensures one_of { EndsAs result }
+    ensures one_of { ClosesAs result }
     ensures closed { (s : Start) (bytes : List ℕ) → s.device.tells_pages ≡ true → SoFarWith s bytes line.now store.old (D.seen device.old) (K.seen sink.old)
         → Closed s bytes result store.new (D.seen device.new) (K.seen sink.new) }
 {
