@@ -6,8 +6,8 @@ use Rattle.std.specs.List.{position_or_len, before_first, after_first}
 use Rattle.std.proofs.lemmas.List.{take_all}
 use Rattle.std.proofs.lemmas.List.Sums.{passes_at_first, split_at_first}
 use Rattle.std.proofs.lemmas.Slice.Eq.{bytes_eq-Decides}
-use Rattle.cli_words.specs.Names.{Text, option_text}
-use Rattle.cli_words.specs.Scan.{IsPlain, IsTidy, TidyTokens, after, after_argument, after_kind, after_value, body_kind, ends_well, has_come, hyphen_kind, is_equals, kind_of, marked, named_kind, none_came, option_with_text}
+use Rattle.cli_words.specs.Names.{Text, option_text, option_with_text}
+use Rattle.cli_words.specs.Scan.{IsPlain, IsTidy, TidyTokens, after, after_argument, after_kind, after_value, body_kind, ends_well, has_come, hyphen_kind, is_equals, kind_of, marked, named_kind, none_came}
 use Rattle.cli_words.specs.Tokens.{Token, dashed, dashed_value, spelling, plain, joined, apart}
 use Rattle.cli_words.specs.declared.names.Argument.{Argument}
 use Rattle.cli_words.specs.declared.names.Argument.TheVariants.{Positional, Named}

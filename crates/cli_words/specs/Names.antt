@@ -35,6 +35,28 @@ abbrev pub text_of : Argument → Text
 text_of Positional = codes "action"
 text_of (Named o) = option_text o
 
+-- the action of this name
+abbrev pub action_with_text : Text → Option Action
+action_with_text t =
+    cond (bytes_eq t (codes "trace")) (Some Trace)
+    (cond (bytes_eq t (codes "format")) (Some Format)
+    (cond (bytes_eq t (codes "load")) (Some Load)
+    (cond (bytes_eq t (codes "check")) (Some Check)
+    (cond (bytes_eq t (codes "upgrade")) (Some Upgrade)
+    (cond (bytes_eq t (codes "merge")) (Some Merge)
+    (cond (bytes_eq t (codes "serve")) (Some Serve)
+    (cond (bytes_eq t (codes "vtrace")) (Some Vtrace) None)))))))
+
+-- the option of this name
+abbrev pub option_with_text : Text → Option OptionName
+option_with_text t =
+    cond (bytes_eq t (codes "blocks")) (Some Blocks)
+    (cond (bytes_eq t (codes "pages")) (Some Pages)
+    (cond (bytes_eq t (codes "cache")) (Some Cache)
+    (cond (bytes_eq t (codes "policy")) (Some Policy)
+    (cond (bytes_eq t (codes "seed")) (Some Seed)
+    (cond (bytes_eq t (codes "count")) (Some Count) None)))))
+
 -- the smallest number that an option takes
 abbrev pub least_of : OptionName → ℕ
 least_of Blocks = 1

@@ -3,7 +3,7 @@ use Rattle.std.specs.Prelude.{◌≡◌, ◌==◌, ⊤, ℕ, Bool, true, false, 
 use Rattle.std.specs.Option.{option_map_or}
 use Rattle.std.specs.List.{before_first, position}
 use Rattle.std.specs.Str.{bytes_eq}
-use Rattle.cli_words.specs.Names.{Text, option_text}
+use Rattle.cli_words.specs.Names.{Text, option_with_text}
 use Rattle.cli_words.specs.Tokens.{Token, spelling, argument_of, plain, joined, apart}
 use Rattle.cli_words.specs.declared.names.Argument.{Argument}
 use Rattle.cli_words.specs.declared.names.Argument.TheVariants.{Positional, Named}
@@ -13,16 +13,6 @@ use Rattle.cli_words.specs.declared.scan.Came.{Came}
 use Rattle.cli_words.specs.declared.scan.Scan.{Scan}
 use Rattle.cli_words.specs.declared.scan.WordKind.{WordKind}
 use Rattle.cli_words.specs.declared.scan.WordKind.TheVariants.{Plain, Name, NameAndValue, Strange}
-
--- the option of this name
-abbrev pub option_with_text : Text → Option OptionName
-option_with_text t =
-    cond (bytes_eq t (codes "blocks")) (Some Blocks)
-    (cond (bytes_eq t (codes "pages")) (Some Pages)
-    (cond (bytes_eq t (codes "cache")) (Some Cache)
-    (cond (bytes_eq t (codes "policy")) (Some Policy)
-    (cond (bytes_eq t (codes "seed")) (Some Seed)
-    (cond (bytes_eq t (codes "count")) (Some Count) None)))))
 
 abbrev pub is_equals : ℕ → Bool
 is_equals c = c == 61

@@ -1,6 +1,6 @@
 use Rattle.std.proofs.Common.{arith, ap, codes, sym}
 use Rattle.std.proofs.lemmas.Slice.Eq.{text_from_reads}
-use Rattle.cli_words.specs.Scan.{option_with_text}
+use Rattle.cli_words.specs.Names.{option_with_text}
 use Rattle.cli_words.proofs.names.OptionName.with_text.Goals as goal
 
 pub returns-in-blocks : goal.returns-in-blocks
