@@ -1,5 +1,5 @@
 -- The rows that clap finds for tokens: one for each token, in turn.
-use Rattle.std.proofs.Common.{rules, arith, ◌≡◌, ◌∙◌, ap, ap₂, sym, refl, subst, true≢false, append_assoc, ℕ, Bool, true, false, ◌||◌, List, [], ◌∷◌, ◌++◌, Option, Some, None, codes, cond, map, bytes_eq, option_to_list}
+use Rattle.std.proofs.Common.{◌≡◌, ◌∙◌, ap, sym, refl, true≢false, append_assoc, ℕ, Bool, true, false, ◌||◌, List, [], ◌∷◌, ◌++◌, Some, None, codes, cond, bytes_eq}
 use Rattle.std.specs.Prelude.{⊤, fold, find, option_and_then, slice_get}
 use Rattle.clap.specs.Words.{Row, Rule, first_of, new_rule}
 use Rattle.clap.specs.Simple.{filled, with_index}
@@ -104,18 +104,21 @@ stays_first came Count n h = h
 
 pub tidy_fits : (ts : List Token) (came : Came) (rows : List Row) (n : ℕ) → Agrees came rows → (came.action ≡ false → n ≡ 1) → IsTidy came ts → Fits ts rows n
 tidy_fits [] came rows n agrees first tidy = tt
-tidy_fits (plain w ∷ ts) came rows n agrees first tidy =
-    ( tidy.0
-    , first tidy.1
-    , agrees Positional ∙ tidy.1
-    , tidy_fits ts (marked came Positional) (with_token rows (plain w)) 2 (agrees_next came Positional w rows agrees tidy.1) (λ e. absurd (true≢false e)) tidy.2)
-tidy_fits (joined o v ∷ ts) came rows n agrees first tidy =
-    ( agrees (Named o) ∙ tidy.0
-    , tidy_fits ts (marked came (Named o)) (with_token rows (joined o v)) n (agrees_next came (Named o) v rows agrees tidy.0) (stays_first came o n first) tidy.1)
-tidy_fits (apart o v ∷ ts) came rows n agrees first tidy =
-    ( tidy.0
-    , agrees (Named o) ∙ tidy.1
-    , tidy_fits ts (marked came (Named o)) (with_token rows (apart o v)) n (agrees_next came (Named o) v rows agrees tidy.1) (stays_first came o n first) tidy.2)
+tidy_fits (plain w ∷ ts) came rows n agrees first tidy = (
+  tidy.0,
+  first tidy.1,
+  agrees Positional ∙ tidy.1,
+  tidy_fits ts (marked came Positional) (with_token rows (plain w)) 2 (agrees_next came Positional w rows agrees tidy.1) (λ e. absurd (true≢false e)) tidy.2,
+)
+tidy_fits (joined o v ∷ ts) came rows n agrees first tidy = (
+  agrees (Named o) ∙ tidy.0,
+  tidy_fits ts (marked came (Named o)) (with_token rows (joined o v)) n (agrees_next came (Named o) v rows agrees tidy.0) (stays_first came o n first) tidy.1,
+)
+tidy_fits (apart o v ∷ ts) came rows n agrees first tidy = (
+  tidy.0,
+  agrees (Named o) ∙ tidy.1,
+  tidy_fits ts (marked came (Named o)) (with_token rows (apart o v)) n (agrees_next came (Named o) v rows agrees tidy.1) (stays_first came o n first) tidy.2,
+)
 
 -- ---- what clap finds for an argument is the first value that the tokens give it
 

@@ -1,14 +1,14 @@
 -- The walk of clap over the words of tokens: it takes them, and finds their values in turn.
-use Rattle.std.proofs.Common.{rules, arith, ◌≡◌, ◌∙◌, ap, ap₂, sym, refl, subst, ℕ, Bool, true, false, ◌&&◌, ◌||◌, not, List, [], ◌∷◌, ◌++◌, Option, Some, None, codes, cond, ◌==◌, bytes_eq, option_to_list}
+use Rattle.std.proofs.Common.{◌≡◌, ◌∙◌, ap, ap₂, sym, refl, subst, ℕ, Bool, true, false, ◌||◌, List, [], ◌∷◌, ◌++◌, Option, Some, None, cond, bytes_eq, option_to_list}
 use Rattle.std.specs.Prelude.{⊤, fold, is_some, option_and_then}
 use Rattle.std.specs.Option.{option_map_or}
-use Rattle.clap.specs.Words.{App, Row, Rule, built, Kinds, first_of, first_value, found_of, rows_of}
+use Rattle.clap.specs.Words.{Row, Rule, built, Kinds, first_of, first_value, found_of, rows_of}
 use Rattle.clap.specs.declared.parser.matches.ArgMatches.{ArgMatches}
 use Rattle.clap.proofs.WalkLemmas.{first_value-rows}
 use Rattle.clap.specs.Simple.{Shape, names_of, entered, matches_of}
-use Rattle.clap.specs.Walk.{Held, Walk, Names, Waiting, Step, idle, option, trailing, value, has_row, settled_rows, used, walked, after_step, plain_word, long_or_other, short_or_plain, subcommand_or_other, with_default, default_rows, reading_by, is_empty, settled, finished}
+use Rattle.clap.specs.Walk.{Held, Walk, Waiting, Step, idle, option, trailing, value, has_row, settled_rows, used, walked, after_step, plain_word, long_or_other, short_or_plain, subcommand_or_other, with_default, default_rows, reading_by, is_empty, settled, finished}
 use Rattle.clap.specs.Lexer.{long_of, short_of, long_of_rest, short_of_rest, strip_byte}
-use Rattle.clap.specs.Faults.{settle_fault, turn_fault, walk_fault, use_fault, other_fault, flag_word_fault, bundle_fault, step_fault, default_fault, defaults_fault, given_default_fault, entered_fault, check_fault, fault_of}
+use Rattle.clap.specs.Faults.{settle_fault, turn_fault, walk_fault, other_fault, flag_word_fault, bundle_fault, step_fault, default_fault, defaults_fault, given_default_fault, entered_fault, check_fault, fault_of}
 use Rattle.clap.specs.Kinds.{or_else}
 use Rattle.cli_words.specs.Command.{tool}
 use Rattle.cli_words.specs.Found.{FindsValues}

@@ -1,12 +1,12 @@
 -- Values, the numbers that they say, and the one job that these make.
-use Rattle.std.proofs.Common.{rules, arith, ◌≡◌, ◌∙◌, ap, ap₂, sym, refl, subst, ℕ, ◌≤◌, ◌<◌, List, [], ◌∷◌, Some, None, Ok, Err, cond, codes, bytes_eq, false}
-use Rattle.std.specs.Prelude.{⊤, Option, slice_get, unwrap_or}
+use Rattle.std.proofs.Common.{arith, ◌≡◌, ◌∙◌, ap, ap₂, sym, refl, subst, ℕ, ◌≤◌, List, [], ◌∷◌, Some, None, lit≤}
+use Rattle.std.specs.Prelude.{Option, slice_get, unwrap_or}
 use Rattle.clap.specs.declared.parser.matches.ArgMatches.{ArgMatches}
 use Rattle.cli_words.specs.Found.{FindsValues, values_found}
-use Rattle.cli_words.specs.Grammar.{Means, Role, Says, Settles, Takes, action_of, needed, optional, role, untaken}
+use Rattle.cli_words.specs.Grammar.{IsInRange, IsWithin, Means, Says, Settles, Takes, action_of, role}
 use Rattle.cli_words.specs.Names.{Text, action_text, action_with_text, least_of, most_of}
 use Rattle.cli_words.specs.Number.{IsNumber}
-use Rattle.cli_words.specs.Scan.{IsPlain, IsTidy, TidyTokens, none_came}
+use Rattle.cli_words.specs.Scan.{IsPlain, IsTidy, none_came}
 use Rattle.cli_words.specs.Settings.{given_of, job_of}
 use Rattle.cli_words.specs.Tokens.{Token, plain, joined, apart, spelling, values_in}
 use Rattle.cli_words.specs.declared.jobs.Job.{Job}
@@ -182,9 +182,38 @@ pub found_settles : (words : List Text) (m : ArgMatches) (j : Job) → FindsValu
 found_settles words m j finds means =
     settles_same (λ a. values_in a means.tokens) (values_found m) j (finds means.tokens means.spelled (meant_tidy words j means)) means.settled
 
-pub found_means : (words : List Text) (m : ArgMatches) (j : Job) → FindsValues words m → TidyTokens none_came words → Settles (values_found m) j → Means words j
-found_means words m j finds t settles = record {
-  tokens = t.tokens;
-  spelled = t.spelled;
-  settled = settles_same (values_found m) (λ a. values_in a t.tokens) j (λ a. sym (finds t.tokens t.spelled t.tidy a)) settles;
-}
+-- ---- the numbers of a job are in range
+
+said_within : (o : OptionName) (values : List Text) (given : Option ℕ) (n : ℕ) → Says o values given → given ≡ Some n → IsWithin o n
+said_within o values None n says is = absurd cc
+said_within o values (Some m) n says is = let same : m ≡ n = cc in subst (λ k. IsWithin o k) same (says.3, says.2.within)
+
+optional_within : (o : OptionName) (values : List Text) (given : Option ℕ) (d n : ℕ) → IsWithin o d → Says o values given → unwrap_or given d ≡ n → IsWithin o n
+optional_within o values None d n within says is = subst (λ k. IsWithin o k) is within
+optional_within o values (Some m) d n within says is = said_within o values (Some m) n says (ap (λ k. Some k) is)
+
+session_within : (values : Argument → List Text) (given : OptionName → Option ℕ) (cache policy : ℕ) → ((o : OptionName) → Says o (values (Named o)) (given o))
+    → unwrap_or (given Cache) 512 ≡ cache → unwrap_or (given Policy) 0 ≡ policy → IsWithin Cache cache × IsWithin Policy policy
+session_within values given cache policy says is_cache is_policy = (
+  optional_within Cache (values (Named Cache)) (given Cache) 512 cache (lit≤ tt, lit≤ tt) (says Cache) is_cache,
+  optional_within Policy (values (Named Policy)) (given Policy) 0 policy (lit≤ tt, lit≤ tt) (says Policy) is_policy,
+)
+
+pub settled_in_range : (values : Argument → List Text) (j : Job) → Settles values j → IsInRange j
+settled_in_range values (job.Format blocks pages) s = (
+  said_within Blocks (values (Named Blocks)) _ blocks (s.says Blocks) (s.takes Blocks),
+  said_within Pages (values (Named Pages)) _ pages (s.says Pages) (s.takes Pages),
+)
+settled_in_range values (job.Trace cache policy) s = session_within values s.given cache policy s.says (s.takes Cache) (s.takes Policy)
+settled_in_range values (job.Load seed count cache policy) s =
+    let session = session_within values s.given cache policy s.says (s.takes Cache) (s.takes Policy) in (
+      said_within Seed (values (Named Seed)) _ seed (s.says Seed) (s.takes Seed),
+      said_within Count (values (Named Count)) _ count (s.says Count) (s.takes Count),
+      session.0,
+      session.1,
+    )
+settled_in_range values job.Check s = tt
+settled_in_range values job.Upgrade s = tt
+settled_in_range values job.Merge s = tt
+settled_in_range values (job.Serve cache policy) s = session_within values s.given cache policy s.says (s.takes Cache) (s.takes Policy)
+settled_in_range values (job.Vtrace cache policy) s = session_within values s.given cache policy s.says (s.takes Cache) (s.takes Policy)

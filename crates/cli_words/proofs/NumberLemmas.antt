@@ -1,7 +1,7 @@
 -- Digits from the left, and the numbers that they are.
-use Rattle.std.proofs.Common.{rules, arith, ◌≡◌, ℕ, ◌+◌, ◌-◌, ◌*◌, ◌≤◌, ◌<◌, List, [], ◌∷◌, length, get_or, drop, refl, sym, subst, add-one, drop-cons, Option, Some, None, IfNone}
+use Rattle.std.proofs.Common.{arith, ◌≡◌, ℕ, ◌+◌, ◌-◌, ◌*◌, ◌≤◌, ◌<◌, List, [], ◌∷◌, length, get_or, drop, refl, sym, subst, add-one, drop-cons, Option, Some, None, IfNone}
 use Rattle.cli_words.specs.Digits.{EndsAt}
-use Rattle.cli_words.specs.Number.{AreDigits, IsDigit, IsNumber, value_after}
+use Rattle.cli_words.specs.Number.{IsDigit, IsNumber, value_after}
 
 -- more digits make no smaller number
 pub value_after-grows : (n : ℕ) (cs : List ℕ) → n ≤ value_after n cs
@@ -30,12 +30,13 @@ SameFrom limit n i ds =
 pub same_next : (limit n v i digit : ℕ) (ds : List ℕ) → i < length ds → digit ≡ get_or ds i 0
     → IsDigit digit × (10 * n + (digit - 48) ≤ limit) → 10 * n + (digit - 48) ≡ v → SameFrom limit n i ds → SameFrom limit v (i + 1) ds
 same_next limit n v i digit ds inside at fits is same =
-    let rest : drop i ds ≡ digit ∷ drop (i + 1) ds = rw at (rest_at i ds inside) in
-    ( omega (arith, fits.1, is)
-    , λ m e. same.1 m (subst (λ cs. EndsAt limit n cs m) (sym rest)
-      (ends_before limit n digit m (drop (i + 1) ds) fits.0 (subst (λ k. EndsAt limit k (drop (i + 1) ds) m) (sym is) e)))
-    , λ m e. subst (λ k. EndsAt limit k (drop (i + 1) ds) m) is
-      (ends_after limit n digit m (drop (i + 1) ds) (subst (λ cs. EndsAt limit n cs m) rest (same.2 m e))))
+    let rest : drop i ds ≡ digit ∷ drop (i + 1) ds = rw at (rest_at i ds inside) in (
+      omega (arith, fits.1, is),
+      λ m e. same.1 m (subst (λ cs. EndsAt limit n cs m) (sym rest)
+          (ends_before limit n digit m (drop (i + 1) ds) fits.0 (subst (λ k. EndsAt limit k (drop (i + 1) ds) m) (sym is) e))),
+      λ m e. subst (λ k. EndsAt limit k (drop (i + 1) ds) m) is
+          (ends_after limit n digit m (drop (i + 1) ds) (subst (λ cs. EndsAt limit n cs m) rest (same.2 m e))),
+    )
 
 pub no_end : (limit n i digit : ℕ) (ds : List ℕ) → i < length ds → digit ≡ get_or ds i 0
     → ¬ (IsDigit digit × (10 * n + (digit - 48) ≤ limit)) → SameFrom limit n i ds → (m : ℕ) → ¬ EndsAt limit 0 ds m

@@ -1,5 +1,5 @@
 -- Words by their first characters, and the tokens that tidy words are.
-use Rattle.std.proofs.Common.{rules, arith, ◌≡◌, ◌∙◌, ap, ap₂, sym, subst, refl, ℕ, ◌≤◌, ◌<◌, Bool, true, false, ◌==◌, List, [], ◌∷◌, ◌++◌, length, get_or, cond, codes, nat_lt, Option, Some, None, eqb-true, lt-ltb, ltb-true, ltb-false, bytes_eq, take}
+use Rattle.std.proofs.Common.{arith, ◌≡◌, ◌∙◌, ap, ap₂, sym, subst, refl, ℕ, ◌<◌, Bool, true, false, ◌==◌, List, [], ◌∷◌, ◌++◌, length, get_or, cond, nat_lt, Option, Some, None, eqb-true, lt-ltb, ltb-true, ltb-false, bytes_eq}
 use Rattle.std.specs.Prelude.{is_some}
 use Rattle.std.specs.Option.{option_map_or}
 use Rattle.std.specs.List.{position_or_len, before_first, after_first}
@@ -7,7 +7,7 @@ use Rattle.std.proofs.lemmas.List.{take_all}
 use Rattle.std.proofs.lemmas.List.Sums.{passes_at_first, split_at_first}
 use Rattle.std.proofs.lemmas.Slice.Eq.{bytes_eq-Decides}
 use Rattle.cli_words.specs.Names.{Text, option_text, option_with_text}
-use Rattle.cli_words.specs.Scan.{IsPlain, IsTidy, TidyTokens, after, after_argument, after_kind, after_value, body_kind, ends_well, has_come, hyphen_kind, is_equals, kind_of, marked, named_kind, none_came}
+use Rattle.cli_words.specs.Scan.{IsPlain, IsTidy, TidyTokens, after, after_argument, after_kind, after_value, body_kind, ends_well, has_come, hyphen_kind, is_equals, kind_of, marked, named_kind}
 use Rattle.cli_words.specs.Tokens.{Token, dashed, dashed_value, spelling, plain, joined, apart}
 use Rattle.cli_words.specs.declared.names.Argument.{Argument}
 use Rattle.cli_words.specs.declared.names.Argument.TheVariants.{Positional, Named}
@@ -49,10 +49,11 @@ named_is body None found b inside = tt
 named_is body (Some o) found true inside =
     let low = ltb-true _ _ inside in
     let equals : get_or body (position_or_len is_equals body) 0 ≡ 61 = eqb-true _ _ (passes_at_first is_equals body 0 low) in
-    let name = text_of_option _ o found in
-    ( after_first is_equals body
-    , ap (λ b. 45 ∷ 45 ∷ b) (split_at_first is_equals body 0 low ∙ ap (λ n. n ++ (get_or body (position_or_len is_equals body) 0 ∷ after_first is_equals body)) name
-      ∙ ap (λ k. option_text o ++ (k ∷ after_first is_equals body)) equals))
+    let name = text_of_option _ o found in (
+      after_first is_equals body,
+      ap (λ b. 45 ∷ 45 ∷ b) (split_at_first is_equals body 0 low ∙ ap (λ n. n ++ (get_or body (position_or_len is_equals body) 0 ∷ after_first is_equals body)) name
+          ∙ ap (λ k. option_text o ++ (k ∷ after_first is_equals body)) equals),
+    )
 named_is body (Some o) found false inside =
     ap (λ b. 45 ∷ 45 ∷ b) (sym (before_all body inside) ∙ text_of_option _ o found)
 

@@ -1,12 +1,11 @@
 -- What tidy tokens give each argument, and which tokens are tidy.
-use Rattle.std.proofs.Common.{rules, arith, ◌≡◌, ◌∙◌, ap, sym, refl, subst, true≢false, Bool, true, false, ◌||◌, List, [], ◌∷◌, Some, None, cond, bytes_eq, option_to_list}
+use Rattle.std.proofs.Common.{◌≡◌, ◌∙◌, ap, sym, refl, subst, true≢false, Bool, true, false, ◌||◌, List, [], ◌∷◌, Some, None, cond, bytes_eq, option_to_list}
 use Rattle.std.specs.Prelude.{⊤, Option}
 use Rattle.cli_words.specs.Names.{Text, text_of}
 use Rattle.cli_words.specs.Scan.{IsPlain, IsTidy, has_come, marked, none_came}
 use Rattle.cli_words.specs.Tokens.{Token, argument_of, value_of, values_in, plain, joined, apart}
 use Rattle.cli_words.specs.declared.names.Argument.{Argument}
 use Rattle.cli_words.specs.declared.names.Argument.TheVariants.{Positional, Named}
-use Rattle.cli_words.specs.declared.names.OptionName.{OptionName}
 use Rattle.cli_words.specs.declared.names.OptionName.TheVariants.{Blocks, Pages, Cache, Policy, Seed, Count}
 use Rattle.cli_words.specs.declared.scan.Came.{Came}
 

@@ -1,5 +1,5 @@
 -- The values that were found for the arguments.
-use Rattle.std.specs.Prelude.{◌≡◌, List, Option, option_to_list}
+use Rattle.std.specs.Prelude.{◌≡◌, List, option_to_list}
 use Rattle.clap.specs.Words.{first_value, found_of}
 use Rattle.clap.specs.declared.parser.matches.ArgMatches.{ArgMatches}
 use Rattle.cli_words.specs.Names.{Text, text_of}

@@ -1,7 +1,7 @@
 -- Which words are a command, and which job they mean. One word is an action; the options, in any order, are each
 -- `--name` followed by the word of its value, or one word `--name=VALUE`; none comes twice; a value is a number in
 -- the option's range; the action has all the options that it needs and none that it does not take.
-use Rattle.std.specs.Prelude.{◌≡◌, ℕ, ◌≤◌, List, [], ◌∷◌, Option, Some, None, unwrap_or}
+use Rattle.std.specs.Prelude.{◌≡◌, ⊤, ℕ, ◌≤◌, List, [], ◌∷◌, Option, Some, None, unwrap_or}
 use Rattle.cli_words.specs.Names.{Text, action_text, least_of, most_of}
 use Rattle.cli_words.specs.Number.{IsNumber}
 use Rattle.cli_words.specs.Tokens.{Token, spelling, values_in}
@@ -81,3 +81,18 @@ pub record Means (words : List Text) (made : Job) : Type 0 where
   pub tokens : List Token
   pub spelled : words ≡ spelling tokens
   pub settled : Settles (λ a. values_in a tokens) made
+
+-- the number is in the range of the option
+abbrev pub IsWithin : OptionName → ℕ → Type 0
+IsWithin o n = (least_of o ≤ n) × (n ≤ most_of o)
+
+-- each number of the job is in the range of its option
+abbrev pub IsInRange : Job → Type 0
+IsInRange (job.Format blocks pages) = IsWithin Blocks blocks × IsWithin Pages pages
+IsInRange (job.Trace cache policy) = IsWithin Cache cache × IsWithin Policy policy
+IsInRange (job.Load seed count cache policy) = IsWithin Seed seed × IsWithin Count count × IsWithin Cache cache × IsWithin Policy policy
+IsInRange job.Check = ⊤
+IsInRange job.Upgrade = ⊤
+IsInRange job.Merge = ⊤
+IsInRange (job.Serve cache policy) = IsWithin Cache cache × IsWithin Policy policy
+IsInRange (job.Vtrace cache policy) = IsWithin Cache cache × IsWithin Policy policy

@@ -1,10 +1,9 @@
 -- The words by their first characters: names and the words of their values take turns, and no argument comes twice.
-use Rattle.std.specs.Prelude.{◌≡◌, ◌==◌, ⊤, ℕ, Bool, true, false, not, List, [], ◌∷◌, Option, Some, None, cond, is_some, codes}
+use Rattle.std.specs.Prelude.{◌≡◌, ◌==◌, ⊤, ℕ, Bool, true, false, not, List, [], ◌∷◌, Option, Some, None, cond, is_some}
 use Rattle.std.specs.Option.{option_map_or}
 use Rattle.std.specs.List.{before_first, position}
-use Rattle.std.specs.Str.{bytes_eq}
 use Rattle.cli_words.specs.Names.{Text, option_with_text}
-use Rattle.cli_words.specs.Tokens.{Token, spelling, argument_of, plain, joined, apart}
+use Rattle.cli_words.specs.Tokens.{Token, spelling, plain, joined, apart}
 use Rattle.cli_words.specs.declared.names.Argument.{Argument}
 use Rattle.cli_words.specs.declared.names.Argument.TheVariants.{Positional, Named}
 use Rattle.cli_words.specs.declared.names.OptionName.{OptionName}
@@ -101,3 +100,7 @@ pub record TidyTokens (came : Came) (words : List Text) : Type 0 where
   pub tokens : List Token
   pub spelled : words ≡ spelling tokens
   pub tidy : IsTidy came tokens
+
+-- Names and the words of their values take turns, every other word that begins with a hyphen is `--name=VALUE`, and no argument comes twice.
+abbrev pub AreTidy : List Text → Type 0
+AreTidy words = TidyTokens none_came words

@@ -6,7 +6,7 @@ ghost use Rattle.std.specs.Prelude.{◌≡◌, IfErr, IfOk, List, codes, map};
 ghost use Rattle.std.specs.String.{string_bytes};
 ghost use Rattle.cli_words.specs.Command.{bare, option_rule, tool};
 ghost use Rattle.cli_words.specs.Found.{FindsValues};
-ghost use Rattle.cli_words.specs.Scan.{TidyTokens, none_came};
+ghost use Rattle.cli_words.specs.Scan.{AreTidy};
 
 use crate::jobs::WordsError;
 use crate::names::OptionName;
@@ -60,7 +60,7 @@ fn parse<'a>(alloc: Global, words: &'a [String]) -> Result<ArgMatches<'a>, Error
 
 /// Tidy words are refused only for want of memory, and the values found are those of their tokens.
 fn parse_tidy<'a>(alloc: Global, words: &'a [String]) -> Result<ArgMatches<'a>, Error>
-    requires { TidyTokens none_came (map string_bytes words.now) }
+    requires { AreTidy (map string_bytes words.now) }
     ensures memory { IfErr result (λ e. kind_of e ≡ OutOfMemory) }
     ensures found { IfOk result (FindsValues (map string_bytes words.entry.now)) }
 {
@@ -78,11 +78,8 @@ fn no_memory(_error: Error) -> WordsError
 /// The values that tidy words give the arguments.
 ///
 /// It fails only for want of memory. The cost is the length of the words.
-pub fn find_values<'a>(
-    alloc: Global,
-    words: &'a [String],
-) -> Result<ArgMatches<'a>, WordsError>
-    requires { TidyTokens none_came (map string_bytes words.now) }
+pub fn find_values<'a>(alloc: Global, words: &'a [String]) -> Result<ArgMatches<'a>, WordsError>
+    requires { AreTidy (map string_bytes words.now) }
     ensures memory { IfErr result (λ e. e ≡ WordsError.NoMemory) }
     ensures found { IfOk result (FindsValues (map string_bytes words.entry.now)) }
 {

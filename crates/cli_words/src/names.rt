@@ -69,7 +69,7 @@ impl OptionName {
     }
 
     /// The smallest number that the option takes.
-    pub fn least(self) -> u64
+    pub fn least(self) -> u32
         ensures { result ≡ least_of self }
     {
         match self {

@@ -3,7 +3,7 @@
 ghost use Rattle.std.specs.List.{before_first, position};
 ghost use Rattle.std.specs.Prelude.{◌≡◌, IsTrue, List, is_some, map};
 ghost use Rattle.std.specs.String.{string_bytes};
-ghost use Rattle.cli_words.specs.Scan.{IsTidy, TidyTokens, after, after_argument, after_value, body_kind, ends_well};
+ghost use Rattle.cli_words.specs.Scan.{AreTidy, IsTidy, after, after_argument, after_value, body_kind, ends_well};
 ghost use Rattle.cli_words.specs.Scan.{has_come, is_equals, kind_of, marked, named_kind, none_came};
 ghost use Rattle.cli_words.specs.Tokens.{Token, spelling};
 
@@ -74,20 +74,41 @@ impl Came {
         ensures { result ≡ marked self argument }
     {
         match argument {
-            Argument::Positional => Came { action: true, ..self },
-            Argument::Named(OptionName::Blocks) => Came { blocks: true, ..self },
-            Argument::Named(OptionName::Pages) => Came { pages: true, ..self },
-            Argument::Named(OptionName::Cache) => Came { cache: true, ..self },
-            Argument::Named(OptionName::Policy) => Came { policy: true, ..self },
+            Argument::Positional => Came {
+                action: true,
+                ..self
+            },
+            Argument::Named(OptionName::Blocks) => Came {
+                blocks: true,
+                ..self
+            },
+            Argument::Named(OptionName::Pages) => Came {
+                pages: true,
+                ..self
+            },
+            Argument::Named(OptionName::Cache) => Came {
+                cache: true,
+                ..self
+            },
+            Argument::Named(OptionName::Policy) => Came {
+                policy: true,
+                ..self
+            },
             Argument::Named(OptionName::Seed) => Came { seed: true, ..self },
-            Argument::Named(OptionName::Count) => Came { count: true, ..self },
+            Argument::Named(OptionName::Count) => Came {
+                count: true,
+                ..self
+            },
         }
     }
 }
 
 impl Scan {
     /// Before the first word.
-    const START: Scan = Scan { came: Came::NONE, waits: false };
+    const START: Scan = Scan {
+        came: Came::NONE,
+        waits: false,
+    };
 
     /// After one more word, where it may stand here.
     fn after(self, word: &[u8]) -> Option<Scan>
@@ -110,7 +131,10 @@ impl Scan {
         ensures { result ≡ after_value self kind }
     {
         match kind {
-            WordKind::Plain => Some(Scan { waits: false, ..self }),
+            WordKind::Plain => Some(Scan {
+                waits: false,
+                ..self
+            }),
             _ => None,
         }
     }
@@ -122,7 +146,10 @@ impl Scan {
         if self.came.has(argument) {
             return None;
         }
-        Some(Scan { came: self.came.marked(argument), waits })
+        Some(Scan {
+            came: self.came.marked(argument),
+            waits,
+        })
     }
 }
 
@@ -130,7 +157,7 @@ impl Scan {
 ///
 /// The cost is the length of the words.
 pub fn is_tidy(words: &[String]) -> bool
-    ensures tokens { IsTrue result → TidyTokens none_came (map string_bytes words.now) }
+    ensures tokens { IsTrue result → AreTidy (map string_bytes words.now) }
     ensures taken { (ts : List Token) → map string_bytes words.now ≡ spelling ts → IsTidy none_came ts → IsTrue result }
 {
     ends_well(Scan::START, words)
@@ -176,7 +203,11 @@ fn body_kind(body: &[u8]) -> WordKind
 fn named_kind(option: OptionName, has_value: bool) -> WordKind
     ensures { result ≡ named_kind (Some option) has_value }
 {
-    if has_value { WordKind::NameAndValue(option) } else { WordKind::Name(option) }
+    if has_value {
+        WordKind::NameAndValue(option)
+    } else {
+        WordKind::Name(option)
+    }
 }
 
 /// What comes before the first `=`, and whether there is one.

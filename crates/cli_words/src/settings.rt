@@ -57,13 +57,26 @@ impl Settings {
     {
         let cache = self.cache.unwrap_or(DEFAULT_CACHE);
         let policy = self.policy.unwrap_or(DEFAULT_POLICY);
-        match (action, self.blocks, self.pages, self.cache, self.policy, self.seed, self.count) {
+        match (
+            action,
+            self.blocks,
+            self.pages,
+            self.cache,
+            self.policy,
+            self.seed,
+            self.count,
+        ) {
             (Action::Trace, None, None, _, _, None, None) => Some(Job::Trace { cache, policy }),
             (Action::Format, Some(blocks), Some(pages), None, None, None, None) => {
                 Some(Job::Format { blocks, pages })
             }
             (Action::Load, None, None, _, _, Some(seed), Some(count)) => {
-                Some(Job::Load { seed, count: u64::from(count), cache, policy })
+                Some(Job::Load {
+                    seed,
+                    count: u64::from(count),
+                    cache,
+                    policy,
+                })
             }
             (Action::Check, None, None, None, None, None, None) => Some(Job::Check),
             (Action::Upgrade, None, None, None, None, None, None) => Some(Job::Upgrade),
@@ -95,7 +108,7 @@ fn number_in(text: &str, option: OptionName) -> Option<u32>
     ensures none { IfNone result ((n : ℕ) → IsNumber (most_of option) text.now n → ¬ (least_of option ≤ n)) }
 {
     let number = number(text.as_bytes(), u64::from(option.most()))?;
-    if number < option.least() {
+    if number < u64::from(option.least()) {
         return None;
     }
     Some(number as u32)

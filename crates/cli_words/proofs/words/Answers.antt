@@ -1,7 +1,9 @@
-use Rattle.std.proofs.Common.{rules, ◌≡◌, ap, sym, subst, map, string_bytes, None, IfOk, IsErrOf, refl}
+use Rattle.std.proofs.Common.{rules, ◌≡◌, sym, subst, map, string_bytes, None, IfOk, refl}
 use Rattle.std.specs.Prelude.{slice_get}
+use Rattle.std.proofs.lemmas.Result.{IfOk-weaker}
+use Rattle.cli_words.specs.Found.{values_found}
 use Rattle.cli_words.specs.Grammar.{Means}
-use Rattle.cli_words.proofs.JobLemmas.{found_means, found_settles, meant_tidy, none_first, none_meant}
+use Rattle.cli_words.proofs.JobLemmas.{found_settles, meant_tidy, none_first, none_meant, settled_in_range}
 use Rattle.cli_words.proofs.words.Goals as goal
 
 pub returns-in_default-clause-usage : goal.returns-in_default-clause-usage
@@ -25,3 +27,7 @@ pub returns-in-Ok-clause-usage : goal.returns-in-Ok-clause-usage
 returns-in-Ok-clause-usage c usage job means =
     let is = c.job_of_values.ensures.only job (found_settles _ c.in-Ok.matches job c.in-Ok.ensures.found means) in
     absurd cc
+
+pub returns-in-Ok-clause-ranges : goal.returns-in-Ok-clause-ranges
+returns-in-Ok-clause-ranges c =
+    IfOk-weaker c.job_of_values.result _ _ (settled_in_range (values_found c.in-Ok.matches)) c.job_of_values.ensures.ok

@@ -1,4 +1,4 @@
-use Rattle.std.proofs.Common.{◌∙◌, ap, subst, true, rules, ◌≡◌, sym}
+use Rattle.std.proofs.Common.{◌∙◌, ap, sym}
 use Rattle.cli_words.specs.Scan.{ends_well, none_came}
 use Rattle.cli_words.proofs.ScanLemmas.{ends_well-spelling, tidy_tokens}
 use Rattle.cli_words.proofs.scan.is_tidy.Goals as goal

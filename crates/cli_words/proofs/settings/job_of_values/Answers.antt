@@ -1,4 +1,4 @@
-use Rattle.std.proofs.Common.{◌≡◌, ◌∙◌, ap, sym, [], ◌∷◌}
+use Rattle.std.proofs.Common.{◌∙◌, ap, sym, [], ◌∷◌}
 use Rattle.cli_words.specs.Found.{values_found}
 use Rattle.cli_words.specs.Names.{action_text}
 use Rattle.cli_words.proofs.JobLemmas.{action_made, settled_job, takes_given}
