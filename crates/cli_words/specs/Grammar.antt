@@ -1,6 +1,7 @@
 -- Which words are a command, and which job they mean. One word is an action; the options, in any order, are each
 -- `--name` followed by the word of its value, or one word `--name=VALUE`; none comes twice; a value is a number in
--- the option's range; the action has all the options that it needs and none that it does not take.
+-- the option's range; the action has all the options that it needs and none that it does not take. So neither the
+-- action nor a value begins with a hyphen.
 use Rattle.std.specs.Prelude.{◌≡◌, ⊤, ℕ, ◌≤◌, List, [], ◌∷◌, Option, Some, None, unwrap_or}
 use Rattle.cli_words.specs.Names.{Text, action_text, least_of, most_of}
 use Rattle.cli_words.specs.Number.{IsNumber}

@@ -70,36 +70,19 @@ impl Came {
     }
 
     /// What came, with one more argument.
-    fn marked(self, argument: Argument) -> Came
+    fn marked(mut self, argument: Argument) -> Came
         ensures { result ≡ marked self argument }
     {
         match argument {
-            Argument::Positional => Came {
-                action: true,
-                ..self
-            },
-            Argument::Named(OptionName::Blocks) => Came {
-                blocks: true,
-                ..self
-            },
-            Argument::Named(OptionName::Pages) => Came {
-                pages: true,
-                ..self
-            },
-            Argument::Named(OptionName::Cache) => Came {
-                cache: true,
-                ..self
-            },
-            Argument::Named(OptionName::Policy) => Came {
-                policy: true,
-                ..self
-            },
-            Argument::Named(OptionName::Seed) => Came { seed: true, ..self },
-            Argument::Named(OptionName::Count) => Came {
-                count: true,
-                ..self
-            },
+            Argument::Positional => self.action = true,
+            Argument::Named(OptionName::Blocks) => self.blocks = true,
+            Argument::Named(OptionName::Pages) => self.pages = true,
+            Argument::Named(OptionName::Cache) => self.cache = true,
+            Argument::Named(OptionName::Policy) => self.policy = true,
+            Argument::Named(OptionName::Seed) => self.seed = true,
+            Argument::Named(OptionName::Count) => self.count = true,
         }
+        self
     }
 }
 

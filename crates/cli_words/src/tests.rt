@@ -11,75 +11,43 @@ fn job_of(alloc: Global, line: &str) -> Result<Result<Job, WordsError>, AllocErr
     Ok(words(&list))
 }
 
+fn trace(cache: u32, policy: u32) -> Job {
+    Job::Trace { cache, policy }
+}
+
+fn format(blocks: u32, pages: u32) -> Job {
+    Job::Format { blocks, pages }
+}
+
+fn load(seed: u32, count: u64, cache: u32, policy: u32) -> Job {
+    Job::Load {
+        seed,
+        count,
+        cache,
+        policy,
+    }
+}
+
 #[test]
 fn takes_what_is_in_the_grammar(rt: HostRuntime) -> Result<(), Fail> {
     for (line, job) in [
-        (
-            "trace",
-            Job::Trace {
-                cache: 512,
-                policy: 0,
-            },
-        ),
-        (
-            "trace --cache 64",
-            Job::Trace {
-                cache: 64,
-                policy: 0,
-            },
-        ),
-        (
-            "trace --policy 9",
-            Job::Trace {
-                cache: 512,
-                policy: 9,
-            },
-        ),
+        ("trace", trace(512, 0)),
+        ("trace --cache 64", trace(64, 0)),
+        ("trace --policy 9", trace(512, 9)),
         (
             "--cache 4096 trace --policy=4294967295",
-            Job::Trace {
-                cache: 4096,
-                policy: u32::MAX,
-            },
+            trace(4096, u32::MAX),
         ),
-        (
-            "format --blocks 4 --pages 4",
-            Job::Format {
-                blocks: 4,
-                pages: 4,
-            },
-        ),
-        (
-            "--pages=1 format --blocks=1",
-            Job::Format {
-                blocks: 1,
-                pages: 1,
-            },
-        ),
+        ("format --blocks 4 --pages 4", format(4, 4)),
+        ("--pages=1 format --blocks=1", format(1, 1)),
         (
             "--blocks 4194304 --pages 1048576 format",
-            Job::Format {
-                blocks: 4_194_304,
-                pages: 1_048_576,
-            },
+            format(4_194_304, 1_048_576),
         ),
-        (
-            "load --seed 1 --count 8",
-            Job::Load {
-                seed: 1,
-                count: 8,
-                cache: 512,
-                policy: 0,
-            },
-        ),
+        ("load --seed 1 --count 8", load(1, 8, 512, 0)),
         (
             "load --count=10000000 --policy 3 --seed=0 --cache 100",
-            Job::Load {
-                seed: 0,
-                count: 10_000_000,
-                cache: 100,
-                policy: 3,
-            },
+            load(0, 10_000_000, 100, 3),
         ),
         ("check", Job::Check),
         ("upgrade", Job::Upgrade),
