@@ -124,12 +124,12 @@ walked-plain w rows p is =
 
 -- ---- faults
 
-abbrev Held_fits : List Row → Option (Argument × Text) → Type 0
-Held_fits rows None = ⊤
-Held_fits rows (Some p) = has_row (text_of p.0) rows ≡ false
+abbrev HeldFits : List Row → Option (Argument × Text) → Type 0
+HeldFits rows None = ⊤
+HeldFits rows (Some p) = has_row (text_of p.0) rows ≡ false
 
 -- what waits is used without a fault
-settles : (rows : List Row) (p : Option (Argument × Text)) → Held_fits rows p → settle_fault top.rules false (held_at rows p) ≡ []
+settles : (rows : List Row) (p : Option (Argument × Text)) → HeldFits rows p → settle_fault top.rules false (held_at rows p) ≡ []
 settles rows None h = refl
 settles rows (Some (Positional, v)) h = rw h refl
 settles rows (Some (Named Blocks, v)) h = rw h refl
@@ -215,7 +215,7 @@ used_at (Named Seed) v rows = refl
 used_at (Named Count) v rows = refl
 
 -- no word is at fault
-clean : (ts : List Token) (rows : List Row) (p : Option (Argument × Text)) (n : ℕ) → Held_fits rows p → Fits ts (rows_at rows p) n
+clean : (ts : List Token) (rows : List Row) (p : Option (Argument × Text)) (n : ℕ) → HeldFits rows p → Fits ts (rows_at rows p) n
     → walk_fault top (names_of (built tool)) (walk_at rows p n) (spelling ts) ≡ []
 unfolding walk_fault
 clean [] rows p n h f = refl
@@ -255,8 +255,8 @@ walks (apart o v ∷ ts) rows p n f =
     ∙ walks ts (rows_at rows p) (Some (Named o, v)) n (subst (λ r. Fits ts r n) (sym (used_at (Named o) v (rows_at rows p))) f.2)
 
 -- what waits at the end has no row yet
-end_fits : (ts : List Token) (rows : List Row) (p : Option (Argument × Text)) (n : ℕ) → Held_fits rows p → Fits ts (rows_at rows p) n
-    → Held_fits (end_of ts rows p n).0 (end_of ts rows p n).1.0
+end_fits : (ts : List Token) (rows : List Row) (p : Option (Argument × Text)) (n : ℕ) → HeldFits rows p → Fits ts (rows_at rows p) n
+    → HeldFits (end_of ts rows p n).0 (end_of ts rows p n).1.0
 end_fits [] rows p n h f = h
 end_fits (plain w ∷ ts) rows p n h f =
     end_fits ts (rows_at rows p) (Some (Positional, w)) 2 f.2 (subst (λ r. Fits ts r 2) (sym (used_at Positional w (rows_at rows p))) f.3)
@@ -306,7 +306,7 @@ same_faults (a ∷ rest) rows h = ap₂ or_else (no_default_fault rows a h.0) (a
 top_plain : NoDefaults top.rules
 top_plain = (refl, (refl, (refl, (refl, (refl, (refl, (refl, tt)))))))
 
-ends_clean : (rows : List Row) (p : Option (Argument × Text)) (n : ℕ) → Held_fits rows p
+ends_clean : (rows : List Row) (p : Option (Argument × Text)) (n : ℕ) → HeldFits rows p
     → (or_else (settle_fault top.rules false (held_at rows p)) (or_else (defaults_fault (rows_at rows p) top.rules) []) ≡ [])
 ends_clean rows p n h = ap₂ or_else (settles rows p h) (ap (λ k. or_else k []) (same_faults top.rules (rows_at rows p) top_plain))
 

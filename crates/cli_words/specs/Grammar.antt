@@ -25,7 +25,8 @@ action_of job.Merge = Merge
 action_of (job.Serve cache policy) = Serve
 action_of (job.Vtrace cache policy) = Vtrace
 
--- what a job makes of an option: it needs it, with this number; it may go without, and has the default then; it does not take it
+-- what a job makes of an option: it needs it, with this number; it may go without, and the default (the first number)
+-- stands for it then; it does not take it
 pub data Role : Type 0 where
   needed : ℕ → Role
   optional : ℕ → ℕ → Role

@@ -30,7 +30,7 @@ option_text Policy = codes "policy"
 option_text Seed = codes "seed"
 option_text Count = codes "count"
 
--- the name of an argument: "action" for the one that has no name on the command line
+-- the name by which an argument is told: that of an option, and "action" for the one word without a name
 abbrev pub text_of : Argument → Text
 text_of Positional = codes "action"
 text_of (Named o) = option_text o

@@ -1,4 +1,4 @@
--- The words by their first characters: names and the words of their values take turns, and no argument comes twice.
+-- Words by their first characters: names and the words of their values take turns, and no argument comes twice.
 use Rattle.std.specs.Prelude.{◌≡◌, ◌==◌, ⊤, ℕ, Bool, true, false, not, List, [], ◌∷◌, Option, Some, None, cond, is_some}
 use Rattle.std.specs.Option.{option_map_or}
 use Rattle.std.specs.List.{before_first, position}
@@ -87,8 +87,8 @@ abbrev pub ends_well : Scan → List Text → Bool
 ends_well s [] = not s.waits
 ends_well s (w ∷ ws) = option_map_or (λ next. ends_well next ws) (after s w) false
 
--- No word of tokens begins with a hyphen, nor does a value in a word of its own; and each argument comes at most once, and not
--- where it came before.
+-- No plain word begins with a hyphen, nor does a value in a word of its own, and none of these is empty; each argument
+-- comes once at most, and not where it came before.
 abbrev pub IsTidy : Came → List Token → Type 0
 IsTidy came [] = ⊤
 IsTidy came (plain w ∷ ts) = IsPlain w × (has_come came Positional ≡ false) × IsTidy (marked came Positional) ts
@@ -101,6 +101,7 @@ pub record TidyTokens (came : Came) (words : List Text) : Type 0 where
   pub spelled : words ≡ spelling tokens
   pub tidy : IsTidy came tokens
 
--- Names and the words of their values take turns, every other word that begins with a hyphen is `--name=VALUE`, and no argument comes twice.
+-- Names and the words of their values take turns, every other word that begins with a hyphen is `--name=VALUE`, and no
+-- argument comes twice.
 abbrev pub AreTidy : List Text → Type 0
 AreTidy words = TidyTokens none_came words

@@ -13,6 +13,7 @@ use crate::names::OptionName;
 use clap::{Arg, ArgMatches, Command, Error};
 use std::alloc::{AllocError, Global};
 
+/// The command without arguments, help or version.
 fn bare<'a>(alloc: Global) -> Command<'a>
     ensures { app_of result ≡ bare }
 {
@@ -22,12 +23,14 @@ fn bare<'a>(alloc: Global) -> Command<'a>
         .disable_version_flag(true)
 }
 
+/// Adds the word without a name.
 fn with_action<'a>(alloc: Global, command: Command<'a>) -> Result<Command<'a>, AllocError>
     ensures { IfOk result (λ c. app_of c ≡ with_rule (app_of command.entry) (new_rule (codes "action"))) }
 {
     command.arg(Arg::new(alloc, "action"))
 }
 
+/// Adds an option with one value.
 fn with_option<'a>(
     alloc: Global,
     command: Command<'a>,
@@ -38,6 +41,7 @@ fn with_option<'a>(
     command.arg(Arg::new(alloc, name).long(name))
 }
 
+/// The whole command: the action, and the six options.
 fn command<'a>(alloc: Global) -> Result<Command<'a>, AllocError>
     ensures { IfOk result (λ c. app_of c ≡ tool) }
 {

@@ -1,4 +1,4 @@
-//! First characters and repeats.
+//! Words by their first characters, and the refusal of what comes twice.
 
 ghost use Rattle.std.specs.List.{before_first, position};
 ghost use Rattle.std.specs.Prelude.{◌≡◌, IsTrue, List, is_some, map};
@@ -165,9 +165,8 @@ fn kind_of(word: &[u8]) -> WordKind
     ensures { result ≡ kind_of word.now }
 {
     match word {
-        [] | [b'-'] => WordKind::Strange,
         [b'-', b'-', body @ ..] => body_kind(body),
-        [b'-', ..] => WordKind::Strange,
+        [] | [b'-', ..] => WordKind::Strange,
         _ => WordKind::Plain,
     }
 }
@@ -183,6 +182,7 @@ fn body_kind(body: &[u8]) -> WordKind
     }
 }
 
+/// What a word is that names an option.
 fn named_kind(option: OptionName, has_value: bool) -> WordKind
     ensures { result ≡ named_kind (Some option) has_value }
 {
