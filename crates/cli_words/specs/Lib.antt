@@ -1,0 +1,9 @@
+pub mod Command
+pub mod Digits
+pub mod Found
+pub mod Grammar
+pub mod Names
+pub mod Number
+pub mod Scan
+pub mod Settings
+pub mod Tokens
