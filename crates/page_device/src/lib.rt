@@ -9,6 +9,7 @@ mod block;
 mod device;
 mod error;
 mod file;
+mod image;
 mod log;
 mod memory;
 
@@ -16,4 +17,4 @@ pub use block::Page;
 pub use device::{Device, End, LogEntry};
 pub use error::{Damage, Failed, NoMemory};
 pub use file::FileDevice;
-pub use memory::{MemDevice, Plan};
+pub use memory::{Lie, MemDevice, Plan};

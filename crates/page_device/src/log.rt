@@ -1,6 +1,7 @@
 // The log of a device in memory. A call for whose entry no memory was found is counted.
-ghost use Rattle.std.specs.Prelude.{◌≡◌, ℕ, ◌+◌, ◌<◌, ◌≤◌, ◌^◌, ◌++◌, ◌∷◌, [], length, replicate, IsOk, OnOk, OnErr};
+ghost use Rattle.std.specs.Prelude.{◌≡◌, ℕ, ◌+◌, ◌<◌, ◌≤◌, ◌^◌, ◌++◌, ◌∷◌, [], length, replicate, take, IsOk, OnOk, OnErr};
 ghost use Rattle.std.specs.Bool.{OnTrue, OnFalse};
+ghost use Rattle.page_device.specs.Disk.{DeviceState, state_after};
 ghost use Rattle.page_device.specs.Memory.{lost_call};
 
 use crate::{LogEntry, NoMemory};
@@ -87,5 +88,21 @@ impl Log {
         ensures { result.now ≡ self.now.kept }
     {
         self.entries.as_slice()
+    }
+
+    /// How many of the kept entries are among the first `at` calls. Goes over the log.
+    pub fn kept_by(&self, at: u64) -> usize
+        ensures within { result ≤ length self.now.kept }
+        ensures state { (s : DeviceState) → state_after s (take result self.now.kept) ≡ state_after s (take at self.now.all) }
+    {
+        let mut left = at;
+        for i in 0..self.entries.len() {
+            let lost = self.lost_before[i];
+            if left <= lost {
+                return i;
+            }
+            left = left - lost - 1;
+        }
+        self.entries.len()
     }
 }
