@@ -14,7 +14,7 @@ use Rattle.page_device.specs.Memory.{MemoryView, IsConsistent, IsQuiet, lost_cal
 use Rattle.page_device.proofs.States.{state_lost, pages_fixed, pages_written}
 use Rattle.page_device.proofs.Undo.{undone-last}
 
-taken_pages-append : (xs ys : List LogEntry) → taken_pages (xs ++ ys) ≡ taken_pages xs ++ taken_pages ys
+pub taken_pages-append : (xs ys : List LogEntry) → taken_pages (xs ++ ys) ≡ taken_pages xs ++ taken_pages ys
 unfolding taken_pages
 taken_pages-append [] ys = refl
 taken_pages-append (Write page block Done ∷ xs) ys = ap (λ (l : List ℕ). page ∷ l) (taken_pages-append xs ys)

@@ -1,5 +1,5 @@
 -- A device in memory as plain data: what callers see of it, and how its start is found again.
-use Rattle.std.specs.Prelude.{◌≡◌, ℕ, ◌+◌, ◌-◌, ◌<◌, ◌≤◌, ◌==◌, min, Bool, true, false, List, [], ◌∷◌, ◌++◌, length, replicate, reverse, find, slice_set, Option, None, IsSome, Result, IsOk, IsErr}
+use Rattle.std.specs.Prelude.{◌≡◌, ℕ, suc, cond, nat_le, ◌+◌, ◌-◌, ◌<◌, ◌≤◌, ◌==◌, min, Bool, true, false, List, [], ◌∷◌, ◌++◌, length, replicate, reverse, find, slice_set, Option, None, IsSome, Result, IsOk, IsErr}
 use Rattle.std.specs.Option.{option_map}
 use Rattle.std.specs.List.{list_any}
 use Rattle.page_device.specs.declared.device.End.TheVariants.{Done, Refused, Taken}
@@ -20,6 +20,11 @@ unfoldable pub entries_of : List LogEntry → List ℕ → List LogEntry
 entries_of [] lost_before = []
 entries_of (entry ∷ entries) [] = entry ∷ entries
 entries_of (entry ∷ entries) (lost ∷ lost_before) = replicate lost lost_call ++ entry ∷ entries_of entries lost_before
+
+-- of entries that so many lost calls stand before, how many are among the first `at` calls
+unfoldable pub kept_at : List ℕ → ℕ → ℕ
+kept_at [] at = 0
+kept_at (lost ∷ lost_before) at = cond (nat_le at lost) 0 (suc (kept_at lost_before (at - lost - 1)))
 
 -- a log: all calls in order, those that were kept, and for how many more there is room
 pub record LogView : Type 0 where

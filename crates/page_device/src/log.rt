@@ -2,7 +2,7 @@
 ghost use Rattle.std.specs.Prelude.{◌≡◌, ℕ, ◌+◌, ◌<◌, ◌≤◌, ◌^◌, ◌++◌, ◌∷◌, [], length, replicate, take, IsOk, OnOk, OnErr};
 ghost use Rattle.std.specs.Bool.{OnTrue, OnFalse};
 ghost use Rattle.page_device.specs.Disk.{DeviceState, state_after};
-ghost use Rattle.page_device.specs.Memory.{lost_call};
+ghost use Rattle.page_device.specs.Memory.{lost_call, kept_at};
 
 use crate::{LogEntry, NoMemory};
 use std::alloc::Global;
@@ -95,14 +95,20 @@ impl Log {
         ensures within { result ≤ length self.now.kept }
         ensures state { (s : DeviceState) → state_after s (take result self.now.kept) ≡ state_after s (take at self.now.all) }
     {
-        let mut left = at;
-        for i in 0..self.entries.len() {
-            let lost = self.lost_before[i];
-            if left <= lost {
-                return i;
-            }
-            left = left - lost - 1;
-        }
-        self.entries.len()
+        kept_among(&self.lost_before, at)
     }
+}
+
+// Of entries that so many lost calls stand before, how many are among the first `at` calls.
+fn kept_among(lost_before: &[u64], at: u64) -> usize
+    ensures { result ≡ kept_at lost_before.now at }
+{
+    let mut left = at;
+    for (i, lost) in lost_before.iter().enumerate() {
+        if left <= *lost {
+            return i;
+        }
+        left = left - *lost - 1;
+    }
+    lost_before.len()
 }

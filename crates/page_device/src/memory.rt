@@ -245,6 +245,14 @@ impl MemDevice {
         ensures told { IfOk result (λ image. memory_seen image ≡ telling (length self.now.start) 0 0 (at_rest image.start) []) }
         ensures whole { IfOk result (λ image. image ≡ beginning image.start) }
     {
+        let pages = self.chosen_pages(at, choice)?;
+        Ok(MemDevice::holding(*self.plans.allocator(), pages))
+    }
+
+    // The pages of an image: back to the start, forward to the moment, and what is chosen there.
+    fn chosen_pages(&self, at: u64, choice: &[u32]) -> Result<Vec<Page>, NoMemory>
+        ensures { IfOk result (λ image. IsChosen (state_after (at_rest self.now.start) (take at self.now.all)) choice.now image.items) }
+    {
         let alloc = *self.plans.allocator();
         let mut start = copy_all(alloc, &self.pages)?;
         undo(&mut start, self.log.kept(), &self.replaced);
@@ -253,7 +261,7 @@ impl MemDevice {
         let Ok(choice) = Vec::from_slice(alloc, choice) else {
             return Err(NoMemory);
         };
-        Ok(MemDevice::holding(alloc, state.choose(choice)))
+        Ok(state.choose(choice))
     }
 
     // A write that is taken, where there is memory for its entry.
