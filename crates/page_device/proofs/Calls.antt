@@ -1,9 +1,10 @@
 -- One call of a device that tells everything.
 use Rattle.std.proofs.Common.{◌≡◌, ℕ, ◌+◌, ◌^◌, ◌<◌, List, [], ◌∷◌, ◌++◌, length, replicate, refl, sym, ◌∙◌, ap, subst, arith, length-append}
+use Rattle.page_device.specs.declared.device.End.{End}
 use Rattle.page_device.specs.declared.device.LogEntry.{LogEntry}
 use Rattle.page_device.specs.declared.device.LogEntry.TheVariants.{Write, Flush}
 use Rattle.page_device.specs.Block.{Block}
-use Rattle.page_device.specs.Disk.{after, state_after, at_rest}
+use Rattle.page_device.specs.Disk.{DeviceState, after, state_after, at_rest}
 use Rattle.page_device.specs.Memory.{MemoryView, lost_call, IsQuiet, tells_truth}
 use Rattle.page_device.specs.MemorySeen.{memory_seen}
 use Rattle.page_device.specs.Meaning.{Meaning, OneCall, IsRefused, SameKind}
@@ -55,3 +56,9 @@ fault_counted P m n o faults is c = subst (λ (v : MemoryView). OneCall P (memor
 pub refused_is_quiet : (entry : LogEntry) → IsRefused entry → IsQuiet entry
 refused_is_quiet (Write page block end) h = h
 refused_is_quiet (Flush end) h = tt
+
+-- and leaves the state
+pub refused_leaves : (s : DeviceState) (entry : LogEntry) → IsRefused entry → after s entry ≡ s
+unfolding after
+refused_leaves s (Write page block end) h = ap (λ (e : End). after s (Write page block e)) h
+refused_leaves s (Flush end) h = ap (λ (e : End). after s (Flush e)) h

@@ -45,9 +45,12 @@ pick_none page (suc i) fixed = refl
 
 -- nothing was written: the fixed contents
 pub chosen_none : (pages : List Block) (left : List ℕ) → IsChosen (with_since pages []) left pages
-chosen_none pages left = record { pages = refl; each = λ page lt. 
-    slice_get_read pages (length pages) page _ refl lt
-    (let e = pick_none page (slice_index left page) (slice_index_or pages page zero_block) in e ∙ get_or_default pages page zero_block _ lt) }
+chosen_none pages left = record {
+  pages = refl;
+  each = λ page lt.
+      slice_get_read pages (length pages) page _ refl lt
+      (let e = pick_none page (slice_index left page) (slice_index_or pages page zero_block) in e ∙ get_or_default pages page zero_block _ lt);
+}
 
 -- the first write is taken
 pub chosen_taken : (pages : List Block) (page : ℕ) (block : Block) (writes : List (ℕ × Block)) (left : List ℕ) (image : List Block) → 0 < slice_index left page
@@ -58,16 +61,16 @@ chosen_taken pages page block writes left image some is = record { pages = is.pa
     here k lt same =
         let in_pages : page < length pages = omega (arith, same) in
         let f : slice_get image page ≡ Some (pick (slice_index_or (slice_set pages page block) page zero_block) (contents_of writes page) (slice_index (slice_set left page (slice_index left page - 1)) page)) =
-            is.each page (omega (arith, in_pages, length-set pages page block)) in
+        is.each page (omega (arith, in_pages, length-set pages page block)) in
         let g : slice_get image page ≡ Some (pick (slice_index_or pages page zero_block) (contents_of ((page, block) ∷ writes) page) (slice_index left page)) = f
-            ∙ ap (λ (b : Block). Some (pick b (contents_of writes page) (slice_index (slice_set left page (slice_index left page - 1)) page))) (get_or-set_same pages page block zero_block in_pages)
-            ∙ ap (λ (n : ℕ). Some (pick block (contents_of writes page) n)) (get_or-set_same left page (slice_index left page - 1) 0 (index_past left page some))
-            ∙ sym (ap (λ (l : List Block). Some (pick (slice_index_or pages page zero_block) l (slice_index left page))) (contents_here page block writes)
-            ∙ ap Some (pick_suc (slice_index_or pages page zero_block) block (contents_of writes page) (slice_index left page) some)) in
+        ∙ ap (λ (b : Block). Some (pick b (contents_of writes page) (slice_index (slice_set left page (slice_index left page - 1)) page))) (get_or-set_same pages page block zero_block in_pages)
+        ∙ ap (λ (n : ℕ). Some (pick block (contents_of writes page) n)) (get_or-set_same left page (slice_index left page - 1) 0 (index_past left page some))
+        ∙ sym (ap (λ (l : List Block). Some (pick (slice_index_or pages page zero_block) l (slice_index left page))) (contents_here page block writes)
+        ∙ ap Some (pick_suc (slice_index_or pages page zero_block) block (contents_of writes page) (slice_index left page) some)) in
         subst (λ (n : ℕ). slice_get image n ≡ Some (pick (slice_index_or pages n zero_block) (contents_of ((page, block) ∷ writes) n) (slice_index left n))) same g
 
     there : (k : ℕ) → k < length pages → (page ≡ k → ⊥) → slice_get image k ≡ Some (pick (slice_index_or pages k zero_block) (contents_of ((page, block) ∷ writes) k) (slice_index left k))
-    there k lt other = is.each k (omega (arith, length-set pages page block)) 
+    there k lt other = is.each k (omega (arith, length-set pages page block))
         ∙ ap (λ (b : Block). Some (pick b (contents_of writes k) (slice_index (slice_set left page (slice_index left page - 1)) k))) (get_or-set_other pages page k block zero_block (λ e. other (sym e)))
         ∙ ap (λ (n : ℕ). Some (pick (slice_index_or pages k zero_block) (contents_of writes k) n)) (get_or-set_other left page k (slice_index left page - 1) 0 (λ e. other (sym e)))
         ∙ ap (λ (l : List Block). Some (pick (slice_index_or pages k zero_block) l (slice_index left k))) (sym (contents_there page k block writes other))

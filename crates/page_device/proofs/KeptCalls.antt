@@ -90,7 +90,7 @@ pub kept_goes : (lost_before : List ℕ) (i left total : ℕ) → i < length los
 kept_goes lost_before i left total lt more h =
     let some = kept_next lost_before i left lt ∙ cond_false (nat_le left (get_or lost_before i 0)) 0 (suc (kept_at (drop (suc i) lost_before) (left - get_or lost_before i 0 - 1))) (not_le left (get_or lost_before i 0) more) in
     let same : kept_at (drop (i + 1) lost_before) (left - get_or lost_before i 0 - 1) ≡ kept_at (drop (suc i) lost_before) (left - get_or lost_before i 0 - 1) =
-        ap (λ (n : ℕ). kept_at (drop n lost_before) (left - get_or lost_before i 0 - 1)) (let e : i + 1 ≡ suc i = omega arith in e) in
+    ap (λ (n : ℕ). kept_at (drop n lost_before) (left - get_or lost_before i 0 - 1)) (let e : i + 1 ≡ suc i = omega arith in e) in
     omega (arith, some, same, h)
 
 kept_none : (left : ℕ) → kept_at [] left ≡ 0

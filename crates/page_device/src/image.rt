@@ -150,11 +150,7 @@ impl Rebuilt {
     }
 
     // The state after these entries.
-    pub fn after(
-        alloc: Global,
-        start: Vec<Page>,
-        entries: &[LogEntry],
-    ) -> Result<Rebuilt, NoMemory>
+    pub fn after(alloc: Global, start: Vec<Page>, entries: &[LogEntry]) -> Result<Rebuilt, NoMemory>
         ensures { IfOk result (λ state. state_of state ≡ state_after (at_rest start.items) entries.now) }
     {
         let mut state = Rebuilt::at_rest(alloc, start);

@@ -12,6 +12,8 @@ mod file;
 mod image;
 mod log;
 mod memory;
+#[cfg(test)]
+mod tests;
 
 pub use block::Page;
 pub use device::{Device, End, LogEntry};

@@ -100,10 +100,8 @@ fn fails(plans: &[u64], call: u64) -> bool
 fn planned_lie(lies: &[Lie], read: u64) -> Option<Page>
     ensures { result ≡ lie_for lies.now read }
 {
-    lies.iter()
-        .rev()
-        .find(|lie| lie.read == read)
-        .map(|lie| lie.page.copy())
+    let latest = lies.iter().rev().find(|lie| lie.read == read);
+    latest.map(|lie| lie.page.copy())
 }
 
 // Adds so many pages of zeros, for which there is room.
@@ -399,6 +397,7 @@ impl MemDevice {
         ensures err { IsErr result }
         ensures cause { HasCause result (memory_seen self.old) (memory_seen self.new) }
         ensures call { OneCall IsRefused (memory_seen self.old) (memory_seen self.new) }
+        ensures state { (memory_seen self.new).state ≡ (memory_seen self.old).state }
         ensures calls { self.new.calls ≡ self.old.calls }
         ensures plans { self.new.plans ≡ self.old.plans }
         ensures spare { self.old.spare ≤ self.new.spare + 1 }
@@ -500,6 +499,7 @@ impl Device for MemDevice {
         ensures plan { FollowsPlan result self.old self.new }
         ensures taken { plan_for self.old.plans self.new.calls ≡ Some true → 0 < self.old.spare
             → self.new.all ≡ self.old.all ++ LogEntry.Write page from.now End.Taken ∷ [] }
+        ensures refused { plan_for self.old.plans self.new.calls ≡ Some false → (memory_seen self.new).state ≡ (memory_seen self.old).state }
     {
         match self.next_plan() {
             None => self.write_done(page, from),
