@@ -5,6 +5,7 @@ use Rattle.page_device.specs.declared.device.LogEntry.{LogEntry}
 use Rattle.page_device.specs.declared.device.LogEntry.TheVariants.{Write, Flush}
 use Rattle.page_device.specs.declared.device.End.{End}
 use Rattle.page_device.specs.declared.device.End.TheVariants.{Done, Refused, Taken}
+use Rattle.page_device.specs.declared.memory.Lie.{Lie}
 use Rattle.page_device.specs.declared.memory.Plan.{Plan}
 use Rattle.page_device.specs.Block.{Block}
 use Rattle.page_device.specs.Disk.{DeviceState, newest, written, after, state_after, at_rest}
@@ -13,7 +14,7 @@ use Rattle.page_device.specs.Memory.{MemoryView, IsConsistent, IsQuiet, lost_cal
 use Rattle.page_device.proofs.States.{state_lost, pages_fixed, pages_written}
 use Rattle.page_device.proofs.Undo.{undone-last}
 
-taken_pages-append : (xs ys : List LogEntry) → taken_pages (xs ++ ys) ≡ taken_pages xs ++ taken_pages ys
+pub taken_pages-append : (xs ys : List LogEntry) → taken_pages (xs ++ ys) ≡ taken_pages xs ++ taken_pages ys
 unfolding taken_pages
 taken_pages-append [] ys = refl
 taken_pages-append (Write page block Done ∷ xs) ys = ap (λ (l : List ℕ). page ∷ l) (taken_pages-append xs ys)
@@ -139,8 +140,8 @@ module _ (pages replaced replaced' : List Block) (kept all kept' all' : List Log
   }
 
 -- two views with the same parts are one
-pub same_view : (start start' : List Block) (all all' kept kept' : List LogEntry) (spare spare' : ℕ) (plans : List Plan) (calls faults reads : ℕ)
+pub same_view : (start start' : List Block) (all all' kept kept' : List LogEntry) (spare spare' : ℕ) (plans : List Plan) (failing_reads failing_rooms : List ℕ) (lies : List Lie) (calls faults reads rooms : ℕ)
     → start ≡ start' → all ≡ all' → kept ≡ kept' → spare ≡ spare'
-    → (let one : MemoryView = record { start = start; all = all; kept = kept; spare = spare; plans = plans; calls = calls; faults = faults; reads = reads } in
-    let other : MemoryView = record { start = start'; all = all'; kept = kept'; spare = spare'; plans = plans; calls = calls; faults = faults; reads = reads } in one ≡ other)
-same_view start start' all all' kept kept' spare spare' plans calls faults reads e f g h = cc
+    → (let one : MemoryView = record { start = start; all = all; kept = kept; spare = spare; plans = plans; failing_reads = failing_reads; failing_rooms = failing_rooms; lies = lies; calls = calls; faults = faults; reads = reads; rooms = rooms } in
+    let other : MemoryView = record { start = start'; all = all'; kept = kept'; spare = spare'; plans = plans; failing_reads = failing_reads; failing_rooms = failing_rooms; lies = lies; calls = calls; faults = faults; reads = reads; rooms = rooms } in one ≡ other)
+same_view start start' all all' kept kept' spare spare' plans failing_reads failing_rooms lies calls faults reads rooms e f g h = cc

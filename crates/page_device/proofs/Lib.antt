@@ -5,3 +5,6 @@ pub mod Consistent
 pub mod Room
 pub mod Views
 pub mod Quiet
+pub mod Rebuilds
+pub mod ChosenSteps
+pub mod KeptCalls

@@ -1,10 +1,12 @@
 pub mod Block
 pub mod Disk
+pub mod Chosen
 pub mod Meaning
 pub mod Images
 pub mod Possible
 pub mod Moments
 pub mod Runs
+pub mod Rebuilt
 pub mod Memory
 pub mod MemorySeen
 pub mod FileSeen

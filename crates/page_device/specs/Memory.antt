@@ -1,9 +1,11 @@
 -- A device in memory as plain data: what callers see of it, and how its start is found again.
-use Rattle.std.specs.Prelude.{◌≡◌, ℕ, ◌+◌, ◌-◌, ◌<◌, ◌≤◌, ◌==◌, min, Bool, List, [], ◌∷◌, ◌++◌, length, replicate, reverse, find, slice_set, Option, None, IsSome, Result, IsOk, IsErr}
+use Rattle.std.specs.Prelude.{◌≡◌, ℕ, suc, cond, nat_le, ◌+◌, ◌-◌, ◌<◌, ◌≤◌, ◌==◌, min, Bool, true, false, List, [], ◌∷◌, ◌++◌, length, replicate, reverse, find, slice_set, Option, None, IsSome, Result, IsOk, IsErr}
 use Rattle.std.specs.Option.{option_map}
+use Rattle.std.specs.List.{list_any}
 use Rattle.page_device.specs.declared.device.End.TheVariants.{Done, Refused, Taken}
 use Rattle.page_device.specs.declared.device.LogEntry.{LogEntry}
 use Rattle.page_device.specs.declared.device.LogEntry.TheVariants.{Write, Flush}
+use Rattle.page_device.specs.declared.memory.Lie.{Lie}
 use Rattle.page_device.specs.declared.memory.Plan.{Plan}
 use Rattle.page_device.specs.Block.{Block}
 use Rattle.page_device.specs.Disk.{state_after, at_rest, newest}
@@ -18,6 +20,11 @@ unfoldable pub entries_of : List LogEntry → List ℕ → List LogEntry
 entries_of [] lost_before = []
 entries_of (entry ∷ entries) [] = entry ∷ entries
 entries_of (entry ∷ entries) (lost ∷ lost_before) = replicate lost lost_call ++ entry ∷ entries_of entries lost_before
+
+-- of entries that so many lost calls stand before, how many are among the first `at` calls
+unfoldable pub kept_at : List ℕ → ℕ → ℕ
+kept_at [] at = 0
+kept_at (lost ∷ lost_before) at = cond (nat_le at lost) 0 (suc (kept_at lost_before (at - lost - 1)))
 
 -- a log: all calls in order, those that were kept, and for how many more there is room
 pub record LogView : Type 0 where
@@ -53,14 +60,49 @@ pub record MemoryView : Type 0 where
   pub kept : List LogEntry
   -- for how many further calls there is room in the log
   pub spare : ℕ
+  -- what is planned for writes and barriers, for reads and for calls of `room`
   pub plans : List Plan
+  pub failing_reads : List ℕ
+  pub failing_rooms : List ℕ
+  pub lies : List Lie
   pub calls : ℕ
   pub faults : ℕ
   pub reads : ℕ
+  pub rooms : ℕ
+
+-- a device that begins with these pages, and with nothing planned
+abbrev pub beginning : List Block → MemoryView
+beginning pages = record {
+  start = pages;
+  all = [];
+  kept = [];
+  spare = 0;
+  plans = [];
+  failing_reads = [];
+  failing_rooms = [];
+  lies = [];
+  calls = 0;
+  faults = 0;
+  reads = 0;
+  rooms = 0;
+}
 
 -- the latest plan for a call, counted from 1: whether its content is taken
 abbrev pub plan_for : List Plan → ℕ → Option Bool
 plan_for plans call = option_map (λ (p : Plan). p.taken) (find (λ (p : Plan). p.call == call) (reverse plans))
+
+-- a read or a `room`, counted from 1, is planned to fail
+abbrev pub fails_at : List ℕ → ℕ → Bool
+fails_at plans call = list_any (λ plan. plan == call) plans
+
+-- the latest lie for a read, counted from 1
+abbrev pub lie_for : List Lie → ℕ → Option Block
+lie_for lies read = option_map (λ (l : Lie). l.page) (find (λ (l : Lie). l.read == read) (reverse lies))
+
+-- each read tells the truth
+abbrev pub tells_truth : List Lie → Bool
+tells_truth [] = true
+tells_truth (lie ∷ lies) = false
 
 -- one more entry of the log
 abbrev pub with_entry : MemoryView → LogEntry → MemoryView

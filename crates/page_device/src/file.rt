@@ -1,5 +1,6 @@
 // A file or a block device node as a device. It tells no content: this is the trusted edge.
-ghost use Rattle.std.specs.Prelude.{◌≡◌, ◌<◌, ◌≤◌, ◌+◌, ◌^◌, true, OnOk, OnErr, IfOk};
+ghost use Rattle.std.specs.Prelude.{◌≡◌, ◌<◌, ◌≤◌, ◌+◌, ◌^◌, Some, true, false, slice_get, IsSome, IsErr, OnOk, OnErr, IfOk};
+ghost use Rattle.page_device.specs.Disk.{newest};
 ghost use Rattle.page_device.specs.Meaning.{HasCause, OneCall, OneRead, WriteEntry, FlushEntry, Grows, IsUntouched};
 ghost use Rattle.page_device.specs.FileSeen.{file_seen, no_pages};
 
@@ -147,6 +148,8 @@ impl<'r, R: Files> FileDevice<'r, R> {
     fn open(&mut self) -> Result<(), Failed>
         ensures pages { self.new.pages ≡ self.old.pages }
         ensures faults { self.new.faults ≡ self.old.faults }
+        ensures closed { self.old.lost ≡ true → IsErr result }
+        ensures lost { self.new.lost ≡ self.old.lost }
     {
         if self.lost {
             return Err(Failed);
@@ -163,6 +166,8 @@ impl<'r, R: Files> FileDevice<'r, R> {
         ensures faults { self.new.faults ≡ self.old.faults }
         ensures enough { IfOk result (λ pages. asked ≤ pages) }
         ensures never_fewer { IfOk result (λ pages. self.old.pages ≤ pages) }
+        ensures closed { self.old.lost ≡ true → IsErr result }
+        ensures lost { self.new.lost ≡ self.old.lost }
     {
         self.open()?;
         let Some(file) = &mut self.file else {
@@ -175,7 +180,12 @@ impl<'r, R: Files> FileDevice<'r, R> {
     fn sync(&mut self) -> Result<(), Failed>
         ensures pages { self.new.pages ≡ self.old.pages }
         ensures faults { self.new.faults ≡ self.old.faults }
+        ensures closed { self.old.lost ≡ true → (IsErr result) × (self.new.lost ≡ true) }
+        ensures loses { IsErr result → IsSome self.old.file → self.new.lost ≡ true }
     {
+        if self.lost {
+            return Err(Failed);
+        }
         let done = sync_whole(&self.file);
         if done.is_err() && self.file.is_some() {
             self.lost = true;
@@ -189,6 +199,7 @@ impl<'r, R: Files> FileDevice<'r, R> {
         ensures result { result ≡ done }
         ensures cause { HasCause result (file_seen self.old.pages self.old.faults) (file_seen self.new.pages self.new.faults) }
         ensures pages { self.new.pages ≡ self.old.pages }
+        ensures lost { self.new.lost ≡ self.old.lost }
     {
         if done.is_err() {
             self.faults = self.faults.saturating_add(1);
@@ -206,7 +217,12 @@ impl<'r, R: Files> Device for FileDevice<'r, R> {
         self.pages
     }
 
-    fn room(&mut self, pages: u32) -> Result<(), Failed> {
+    fn room(&mut self, pages: u32) -> Result<(), Failed>
+        ensures cause { HasCause result (file_seen self.old.pages self.old.faults) (file_seen self.new.pages self.new.faults) }
+        ensures grown { OnOk result (Grows pages (file_seen self.old.pages self.old.faults) (file_seen self.new.pages self.new.faults)) }
+        ensures untouched { OnErr result (IsUntouched (file_seen self.old.pages self.old.faults) (file_seen self.new.pages self.new.faults)) }
+        ensures closed { self.old.lost ≡ true → (IsErr result) × (self.new.lost ≡ true) }
+    {
         match self.grow(pages) {
             Ok(there) => {
                 self.pages = there;
@@ -216,17 +232,39 @@ impl<'r, R: Files> Device for FileDevice<'r, R> {
         }
     }
 
-    fn read(&mut self, page: u32, into: &mut Page) -> Result<(), Failed> {
+    fn read(&mut self, page: u32, into: &mut Page) -> Result<(), Failed>
+        requires { page < self.old.pages }
+        ensures cause { HasCause result (file_seen self.old.pages self.old.faults) (file_seen self.new.pages self.new.faults) }
+        ensures kept { OneRead (file_seen self.old.pages self.old.faults) (file_seen self.new.pages self.new.faults) }
+        ensures newest { OnOk result (false ≡ true → false ≡ true → slice_get (newest (file_seen self.old.pages self.old.faults).state) page ≡ Some into.new) }
+        ensures closed { self.old.lost ≡ true → (IsErr result) × (self.new.lost ≡ true) }
+    {
+        if self.lost {
+            return self.counted(Err(Failed));
+        }
         let done = read_whole(&mut self.file, page, &mut into.0);
         self.counted(done)
     }
 
-    fn write(&mut self, page: u32, from: &Page) -> Result<(), Failed> {
+    fn write(&mut self, page: u32, from: &Page) -> Result<(), Failed>
+        requires { page < self.old.pages }
+        ensures cause { HasCause result (file_seen self.old.pages self.old.faults) (file_seen self.new.pages self.new.faults) }
+        ensures call { OneCall (WriteEntry page from.now result) (file_seen self.old.pages self.old.faults) (file_seen self.new.pages self.new.faults) }
+        ensures closed { self.old.lost ≡ true → (IsErr result) × (self.new.lost ≡ true) }
+    {
+        if self.lost {
+            return self.counted(Err(Failed));
+        }
         let done = write_whole(&mut self.file, page, &from.0);
         self.counted(done)
     }
 
-    fn flush(&mut self) -> Result<(), Failed> {
+    fn flush(&mut self) -> Result<(), Failed>
+        ensures cause { HasCause result (file_seen self.old.pages self.old.faults) (file_seen self.new.pages self.new.faults) }
+        ensures call { OneCall (FlushEntry result) (file_seen self.old.pages self.old.faults) (file_seen self.new.pages self.new.faults) }
+        ensures closed { self.old.lost ≡ true → (IsErr result) × (self.new.lost ≡ true) }
+        ensures loses { IsErr result → IsSome self.old.file → self.new.lost ≡ true }
+    {
         let done = self.sync();
         self.counted(done)
     }

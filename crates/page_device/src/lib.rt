@@ -9,11 +9,14 @@ mod block;
 mod device;
 mod error;
 mod file;
+mod image;
 mod log;
 mod memory;
+#[cfg(test)]
+mod tests;
 
 pub use block::Page;
 pub use device::{Device, End, LogEntry};
 pub use error::{Damage, Failed, NoMemory};
 pub use file::FileDevice;
-pub use memory::{MemDevice, Plan};
+pub use memory::{Lie, MemDevice, Plan};

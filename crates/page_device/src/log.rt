@@ -1,7 +1,8 @@
 // The log of a device in memory. A call for whose entry no memory was found is counted.
-ghost use Rattle.std.specs.Prelude.{◌≡◌, ℕ, ◌+◌, ◌<◌, ◌≤◌, ◌^◌, ◌++◌, ◌∷◌, [], length, replicate, IsOk, OnOk, OnErr};
+ghost use Rattle.std.specs.Prelude.{◌≡◌, ℕ, ◌+◌, ◌<◌, ◌≤◌, ◌^◌, ◌++◌, ◌∷◌, [], length, replicate, take, IsOk, OnOk, OnErr};
 ghost use Rattle.std.specs.Bool.{OnTrue, OnFalse};
-ghost use Rattle.page_device.specs.Memory.{lost_call};
+ghost use Rattle.page_device.specs.Disk.{DeviceState, state_after};
+ghost use Rattle.page_device.specs.Memory.{lost_call, kept_at};
 
 use crate::{LogEntry, NoMemory};
 use std::alloc::Global;
@@ -88,4 +89,26 @@ impl Log {
     {
         self.entries.as_slice()
     }
+
+    /// How many of the kept entries are among the first `at` calls. Goes over the log.
+    pub fn kept_by(&self, at: u64) -> usize
+        ensures within { result ≤ length self.now.kept }
+        ensures state { (s : DeviceState) → state_after s (take result self.now.kept) ≡ state_after s (take at self.now.all) }
+    {
+        kept_among(&self.lost_before, at)
+    }
+}
+
+// Of entries that so many lost calls stand before, how many are among the first `at` calls.
+fn kept_among(lost_before: &[u64], at: u64) -> usize
+    ensures { result ≡ kept_at lost_before.now at }
+{
+    let mut left = at;
+    for (i, lost) in lost_before.iter().enumerate() {
+        if left <= *lost {
+            return i;
+        }
+        left = left - *lost - 1;
+    }
+    lost_before.len()
 }

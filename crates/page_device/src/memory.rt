@@ -1,11 +1,13 @@
 // A device in memory, which tells everything and fails where it is told to.
-ghost use Rattle.std.specs.Prelude.{◌≡◌, ◌+◌, ◌<◌, ◌≤◌, ◌^◌, ◌++◌, ◌∷◌, [], ◌-◌, ◌≢◌, ℕ, max, min, replicate, None, Some, true, length, slice_get, IsOk, IsErr, IsTrue, OnOk, OnErr, vec_len, vec_capacity};
+ghost use Rattle.std.specs.Prelude.{◌≡◌, ◌+◌, ◌<◌, ◌≤◌, ◌^◌, ◌++◌, ◌∷◌, [], ◌-◌, ◌≢◌, ℕ, max, min, replicate, None, Some, true, false, length, take, slice_get, IsOk, IsErr, IsTrue, OnOk, OnErr, IfOk, IfSome, vec_len, vec_capacity};
 ghost use Rattle.std.specs.Bool.{OnTrue, OnFalse};
 ghost use Rattle.page_device.specs.Block.{zero_block};
-ghost use Rattle.page_device.specs.Disk.{at_rest, newest, with_room};
-ghost use Rattle.page_device.specs.Memory.{plan_for};
+ghost use Rattle.page_device.specs.Chosen.{IsChosen};
+ghost use Rattle.page_device.specs.Disk.{at_rest, newest, state_after, with_room, LeftAt};
+ghost use Rattle.page_device.specs.Memory.{plan_for, fails_at, lie_for};
 ghost use Rattle.page_device.specs.Meaning.{HasCause, OneCall, OneRead, IsRefused, WriteEntry, FlushEntry, Grows, IsUntouched};
 
+use crate::image::{Rebuilt, copy_all, undo};
 use crate::log::Log;
 use crate::{Device, End, Failed, LogEntry, NoMemory, Page};
 use std::alloc::Global;
@@ -19,10 +21,19 @@ pub struct Plan {
     pub taken: bool,
 }
 
-/// A device in memory. It tells its pages, its log and its reads, and it is honest.
+/// A read that is to give another page than the one it asks for: its number, counted from 1.
+#[derive(Drop)]
+pub struct Lie {
+    pub read: u64,
+    pub page: Page,
+}
+
+/// A device in memory. It tells its pages, its log and its reads. It is honest as long as no lie is
+/// planned, and tells that too.
 ///
-/// Tests and models stand on it: failures can be planned, and the log shows each call. A call costs
-/// constant time, beside the number of planned failures.
+/// Tests and models stand on it: faults can be planned, the log shows each call, and `image` gives what
+/// a crash at any moment left. A call of `Device` costs the copy of a page, beside the number of planned
+/// faults and what memory for the log costs; `room` costs the pages that it adds.
 #[derive(Drop)]
 pub struct MemDevice {
     // The newest contents.
@@ -33,9 +44,13 @@ pub struct MemDevice {
     // For how many further entries there is room, in `log` and in `replaced`.
     spare: usize,
     plans: Vec<Plan>,
+    failing_reads: Vec<u64>,
+    failing_rooms: Vec<u64>,
+    lies: Vec<Lie>,
     calls: u64,
     faults: u64,
     reads: u64,
+    rooms: u64,
 }
 
 impl Model for MemDevice {
@@ -50,9 +65,13 @@ impl Model for MemDevice {
       kept = m.log.kept;
       spare = m.spare;
       plans = m.plans.items;
+      failing_reads = m.failing_reads.items;
+      failing_rooms = m.failing_rooms.items;
+      lies = m.lies.items;
       calls = m.calls;
       faults = m.faults;
       reads = m.reads;
+      rooms = m.rooms;
     } };
 
     ghost invariant = { λ m. IsConsistent m.pages.items m.replaced.items m.log.kept m.log.all
@@ -70,6 +89,21 @@ fn planned(plans: &[Plan], call: u64) -> Option<bool>
         .map(|plan| plan.taken)
 }
 
+// Whether it is planned that the call fails.
+fn fails(plans: &[u64], call: u64) -> bool
+    ensures { result ≡ fails_at plans.now call }
+{
+    plans.iter().any(|plan| *plan == call)
+}
+
+// The page that is planned for the read in place of its own: the latest plan counts.
+fn planned_lie(lies: &[Lie], read: u64) -> Option<Page>
+    ensures { result ≡ lie_for lies.now read }
+{
+    let latest = lies.iter().rev().find(|lie| lie.read == read);
+    latest.map(|lie| lie.page.copy())
+}
+
 // Adds so many pages of zeros, for which there is room.
 fn push_zeros(pages: &mut Vec<Page>, more: usize)
     requires { vec_len pages.old + more ≤ vec_capacity pages.old }
@@ -82,7 +116,7 @@ fn push_zeros(pages: &mut Vec<Page>, more: usize)
 
 impl MemDevice {
     ghost use Rattle.page_device.specs.MemorySeen.{telling, memory_seen};
-    ghost use Rattle.page_device.specs.Memory.{with_entry, lost_call, IsQuiet};
+    ghost use Rattle.page_device.specs.Memory.{with_entry, lost_call, beginning, IsQuiet};
 
     /// A device that begins with these pages fixed, nothing pending, an empty log and no planned
     /// failure. Takes no memory.
@@ -92,6 +126,7 @@ impl MemDevice {
         ensures kept { result.kept ≡ [] }
         ensures plans { result.plans ≡ [] }
         ensures calls { result.calls ≡ 0 }
+        ensures whole { result ≡ beginning pages.items }
     {
         MemDevice {
             pages,
@@ -99,9 +134,13 @@ impl MemDevice {
             log: Log::new(alloc),
             spare: 0,
             plans: Vec::new(alloc),
+            failing_reads: Vec::new(alloc),
+            failing_rooms: Vec::new(alloc),
+            lies: Vec::new(alloc),
             calls: 0,
             faults: 0,
             reads: 0,
+            rooms: 0,
         }
     }
 
@@ -113,6 +152,45 @@ impl MemDevice {
         ensures err { OnErr result (self.new ≡ self.old) }
     {
         match self.plans.push(Plan { call, taken }) {
+            Ok(()) => Ok(()),
+            Err(_) => Err(NoMemory),
+        }
+    }
+
+    /// Makes the read of this number fail, counted from 1 as `reads` counts. After an error nothing is
+    /// changed.
+    pub fn fail_read(&mut self, read: u64) -> Result<(), NoMemory>
+        ensures ok { OnOk result (self.new ≡ record self.old { failing_reads = self.old.failing_reads ++ read ∷ [] }) }
+        ensures err { OnErr result (self.new ≡ self.old) }
+    {
+        match self.failing_reads.push(read) {
+            Ok(()) => Ok(()),
+            Err(_) => Err(NoMemory),
+        }
+    }
+
+    /// Makes the `room` of this number fail, counted from 1 over all calls of it. After an error nothing
+    /// is changed.
+    pub fn fail_room(&mut self, room: u64) -> Result<(), NoMemory>
+        ensures ok { OnOk result (self.new ≡ record self.old { failing_rooms = self.old.failing_rooms ++ room ∷ [] }) }
+        ensures err { OnErr result (self.new ≡ self.old) }
+    {
+        match self.failing_rooms.push(room) {
+            Ok(()) => Ok(()),
+            Err(_) => Err(NoMemory),
+        }
+    }
+
+    /// Makes the read of this number give this page, counted from 1 as `reads` counts. From then on the
+    /// device is not honest, and tells so. Of two lies for one read the later one counts, and a read that
+    /// is also planned to fail fails. After an error nothing is changed.
+    pub fn lie(&mut self, read: u64, page: &Page) -> Result<(), NoMemory>
+        ensures ok { OnOk result (self.new ≡ record self.old { lies = self.old.lies ++ record { read = read; page = page.now } ∷ [] }) }
+        ensures told { OnOk result ((memory_seen self.new).honest ≡ false) }
+        ensures err { OnErr result (self.new ≡ self.old) }
+    {
+        let page = page.copy();
+        match self.lies.push(Lie { read, page }) {
             Ok(()) => Ok(()),
             Err(_) => Err(NoMemory),
         }
@@ -145,6 +223,43 @@ impl MemDevice {
         ensures { result ≡ self.now.calls }
     {
         self.calls
+    }
+
+    /// The number of reads so far, failed ones too. It stands still at its end.
+    pub fn reads(&self) -> u64
+        ensures { result ≡ self.now.reads }
+    {
+        self.reads
+    }
+
+    /// A new device that holds what a crash after the first `at` calls may have left, and nothing pending:
+    /// of page `j` the fixed content where `choice[j]` is 0, and where it is `i` the `i`-th content written
+    /// since the last barrier, or the last one where there are fewer. A page past the end of `choice` takes
+    /// 0. A moment past the last call is the one after all calls. The device has as many pages as this one
+    /// has now. Goes over the pages and the whole log.
+    pub fn image(&self, at: u64, choice: &[u32]) -> Result<MemDevice, NoMemory>
+        ensures chosen { IfOk result (λ image. IsChosen (state_after (at_rest self.now.start) (take at self.now.all)) choice.now image.start) }
+        ensures left { IfOk result (λ image. LeftAt (at_rest self.now.start) self.now.all at image.start) }
+        ensures told { IfOk result (λ image. memory_seen image ≡ telling (length self.now.start) 0 0 (at_rest image.start) []) }
+        ensures whole { IfOk result (λ image. image ≡ beginning image.start) }
+    {
+        let pages = self.chosen_pages(at, choice)?;
+        Ok(MemDevice::holding(*self.plans.allocator(), pages))
+    }
+
+    // The pages of an image: back to the start, forward to the moment, and what is chosen there.
+    fn chosen_pages(&self, at: u64, choice: &[u32]) -> Result<Vec<Page>, NoMemory>
+        ensures { IfOk result (λ image. IsChosen (state_after (at_rest self.now.start) (take at self.now.all)) choice.now image.items) }
+    {
+        let alloc = *self.plans.allocator();
+        let mut start = copy_all(alloc, &self.pages)?;
+        undo(&mut start, self.log.kept(), &self.replaced);
+        let entries = &self.log.kept()[..self.log.kept_by(at)];
+        let state = Rebuilt::after(alloc, start, entries)?;
+        let Ok(choice) = Vec::from_slice(alloc, choice) else {
+            return Err(NoMemory);
+        };
+        Ok(state.choose(choice))
     }
 
     // A write that is taken, where there is memory for its entry.
@@ -202,6 +317,37 @@ impl MemDevice {
         planned(&self.plans, self.calls)
     }
 
+    // Counts a read, and tells whether it is planned to fail.
+    fn next_read_fails(&mut self) -> bool
+        ensures counted { self.new ≡ record self.old { reads = min (self.old.reads + 1) 18446744073709551615 } }
+        ensures planned { result ≡ fails_at self.old.failing_reads self.new.reads }
+    {
+        self.reads = self.reads.saturating_add(1);
+        fails(&self.failing_reads, self.reads)
+    }
+
+    // Counts a `room`, and tells whether it is planned to fail.
+    fn next_room_fails(&mut self) -> bool
+        ensures counted { self.new ≡ record self.old { rooms = min (self.old.rooms + 1) 18446744073709551615 } }
+        ensures planned { result ≡ fails_at self.old.failing_rooms self.new.rooms }
+    {
+        self.rooms = self.rooms.saturating_add(1);
+        fails(&self.failing_rooms, self.rooms)
+    }
+
+    // What the read that was counted last gives.
+    fn read_page(&self, page: u32) -> Page
+        requires { page < (memory_seen self.now).pages }
+        ensures lied { IfSome (lie_for self.now.lies self.now.reads) (λ told. result ≡ told) }
+        ensures told { lie_for self.now.lies self.now.reads ≡ None
+            → slice_get (newest (memory_seen self.now).state) page ≡ Some result }
+    {
+        match planned_lie(&self.lies, self.reads) {
+            Some(told) => told,
+            None => self.pages[page as usize].copy(),
+        }
+    }
+
     // Adds pages of zeros up to so many pages, where there is memory for them.
     fn add_zeros(&mut self, pages: u32) -> bool
         ensures added { OnTrue result (self.new ≡ record self.old { start = self.old.start ++ replicate (pages - length self.old.start) zero_block }) }
@@ -251,6 +397,7 @@ impl MemDevice {
         ensures err { IsErr result }
         ensures cause { HasCause result (memory_seen self.old) (memory_seen self.new) }
         ensures call { OneCall IsRefused (memory_seen self.old) (memory_seen self.new) }
+        ensures state { (memory_seen self.new).state ≡ (memory_seen self.old).state }
         ensures calls { self.new.calls ≡ self.old.calls }
         ensures plans { self.new.plans ≡ self.old.plans }
         ensures spare { self.old.spare ≤ self.new.spare + 1 }
@@ -311,10 +458,13 @@ impl Device for MemDevice {
         ensures cause { HasCause result (memory_seen self.old) (memory_seen self.new) }
         ensures grown { OnOk result (Grows pages (memory_seen self.old) (memory_seen self.new)) }
         ensures untouched { OnErr result (IsUntouched (memory_seen self.old) (memory_seen self.new)) }
-        ensures exact { OnOk result (self.new ≡ record self.old { start = self.old.start ++ replicate (pages - length self.old.start) zero_block }) }
-        ensures no_more { pages ≤ length self.old.start → IsOk result }
+        ensures exact { OnOk result (self.new ≡ record self.old { start = self.old.start ++ replicate (pages - length self.old.start) zero_block; rooms = self.new.rooms }) }
+        ensures failed { OnErr result (self.new ≡ record self.old { faults = self.new.faults; rooms = self.new.rooms }) }
+        ensures rooms { self.new.rooms ≡ min (self.old.rooms + 1) 18446744073709551615 }
+        ensures planned { fails_at self.old.failing_rooms self.new.rooms ≡ true → IsErr result }
+        ensures no_more { fails_at self.old.failing_rooms self.new.rooms ≡ false → pages ≤ length self.old.start → IsOk result }
     {
-        if !self.add_zeros(pages) {
+        if self.next_room_fails() || !self.add_zeros(pages) {
             self.count_fault();
             return Err(Failed);
         }
@@ -327,10 +477,18 @@ impl Device for MemDevice {
         ensures kept { OneRead (memory_seen self.old) (memory_seen self.new) }
         ensures newest { OnOk result ((memory_seen self.old).honest ≡ true → (memory_seen self.old).tells_pages ≡ true
             → slice_get (newest (memory_seen self.old).state) page ≡ Some into.new) }
-        ensures never_fails { IsOk result }
+        ensures exact { self.new ≡ record self.old { faults = self.new.faults; reads = min (self.old.reads + 1) 18446744073709551615 } }
+        ensures planned { fails_at self.old.failing_reads self.new.reads ≡ true → IsErr result }
+        ensures unplanned { fails_at self.old.failing_reads self.new.reads ≡ false → IsOk result }
+        ensures lied { OnOk result (IfSome (lie_for self.old.lies self.new.reads) (λ told. into.new ≡ told)) }
+        ensures told { OnOk result (lie_for self.old.lies self.new.reads ≡ None
+            → slice_get (newest (memory_seen self.old).state) page ≡ Some into.new) }
     {
-        self.reads = self.reads.saturating_add(1);
-        *into = self.pages[page as usize].copy();
+        if self.next_read_fails() {
+            self.count_fault();
+            return Err(Failed);
+        }
+        *into = self.read_page(page);
         Ok(())
     }
 
@@ -341,6 +499,7 @@ impl Device for MemDevice {
         ensures plan { FollowsPlan result self.old self.new }
         ensures taken { plan_for self.old.plans self.new.calls ≡ Some true → 0 < self.old.spare
             → self.new.all ≡ self.old.all ++ LogEntry.Write page from.now End.Taken ∷ [] }
+        ensures refused { plan_for self.old.plans self.new.calls ≡ Some false → (memory_seen self.new).state ≡ (memory_seen self.old).state }
     {
         match self.next_plan() {
             None => self.write_done(page, from),

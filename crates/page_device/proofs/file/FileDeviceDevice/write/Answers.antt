@@ -2,4 +2,7 @@ use Rattle.page_device.proofs.Quiet.{quiet_write}
 use Rattle.page_device.proofs.file.FileDeviceDevice.write.Goals as goal
 
 pub returns-clause-call : goal.returns-clause-call
-returns-clause-call g c = quiet_write _ _ _ _ _ _ _ c.counted.ensures.pages
+returns-clause-call g c = quiet_write _ _ _ _ _ _ _ c.counted-2.ensures.pages
+
+pub returns-then-self-clause-call : goal.returns-then-self-clause-call
+returns-then-self-clause-call g c = quiet_write _ _ _ _ _ _ _ c.counted.ensures.pages

@@ -48,9 +48,9 @@ returns-clause-added c =
     let all_is = ap (λ (v : MemoryView). v.all) c.self.view_is in
     let e = as_many c.args.self.now inside.pages.items inside.replaced.items inside.log.kept inside.log.all start_is all_is c.self.invariant.0 in
     let zeros = replicate (c.args.pages - length c.args.self.now.start) zero_block in
-    ap (λ (l : List Block). let v : MemoryView = record { start = undone l (taken_pages inside.log.kept) inside.replaced.items; all = inside.log.all; kept = inside.log.kept; spare = inside.spare; plans = inside.plans.items; calls = inside.calls; faults = inside.faults; reads = inside.reads } in v)
+    ap (λ (l : List Block). let v : MemoryView = record { start = undone l (taken_pages inside.log.kept) inside.replaced.items; all = inside.log.all; kept = inside.log.kept; spare = inside.spare; plans = inside.plans.items; failing_reads = inside.failing_reads.items; failing_rooms = inside.failing_rooms.items; lies = inside.lies.items; calls = inside.calls; faults = inside.faults; reads = inside.reads; rooms = inside.rooms } in v)
     (zeros_are inside.pages.items c.push_zeros.new.pages.items c.args.pages c.len-have.result (length c.args.self.now.start) (c.push_zeros.ensures ∙ ap (λ (l : List Block). l ++ replicate (c.args.pages - c.len-have.result) zero_block) c.reserve.ensures.items) (omega (arith, e, c.len-have.ensures)))
-    ∙ ap (λ (l : List Block). let v : MemoryView = record { start = l; all = inside.log.all; kept = inside.log.kept; spare = inside.spare; plans = inside.plans.items; calls = inside.calls; faults = inside.faults; reads = inside.reads } in v)
+    ∙ ap (λ (l : List Block). let v : MemoryView = record { start = l; all = inside.log.all; kept = inside.log.kept; spare = inside.spare; plans = inside.plans.items; failing_reads = inside.failing_reads.items; failing_rooms = inside.failing_rooms.items; lies = inside.lies.items; calls = inside.calls; faults = inside.faults; reads = inside.reads; rooms = inside.rooms } in v)
     (start_grows c.args.self.now inside.pages.items inside.replaced.items inside.log.kept inside.log.all start_is all_is c.self.invariant.0 zeros)
     ∙ ap (λ (v : MemoryView). let w : MemoryView = record v { start = c.args.self.now.start ++ zeros } in w) c.self.view_is
 

@@ -27,4 +27,7 @@ unfolding state_after
 nothing_yet pages = refl
 
 pub returns-clause-told : goal.returns-clause-told
-returns-clause-told c = rw (start_is c.args.pages.items c.new.result.items c.new-2.result.kept c.new-2.ensures.kept, c.new-2.ensures.all, nothing_yet c.args.pages.items) refl
+returns-clause-told c = rw (start_is c.args.pages.items c.new.result.items c.new-2.result.kept c.new-2.ensures.kept, c.new-2.ensures.all, nothing_yet c.args.pages.items, c.new-6.ensures.items) refl
+
+pub returns-clause-whole : goal.returns-clause-whole
+returns-clause-whole c = rw (start_is c.args.pages.items c.new.result.items c.new-2.result.kept c.new-2.ensures.kept, c.new-2.ensures.all, c.new-2.ensures.kept, c.new-3.ensures.items, c.new-4.ensures.items, c.new-5.ensures.items, c.new-6.ensures.items) refl

@@ -15,7 +15,7 @@ invariant_of-self-2 c =
 
 pub returns-clause-kept : goal.returns-clause-kept
 returns-clause-kept c =
-    same_view _ _ _ _ _ _ _ _ c.self.inside.plans.items c.self.inside.calls c.self.inside.faults c.self.inside.reads
+    same_view _ _ _ _ _ _ _ _ c.self.inside.plans.items c.self.inside.failing_reads.items c.self.inside.failing_rooms.items c.self.inside.lies.items c.self.inside.calls c.self.inside.faults c.self.inside.reads c.self.inside.rooms
     (start-quiet c.self.inside.pages.items c.self.inside.replaced.items c.self.inside.log.kept c.keep.new.self.kept c.args.entry c.requires (c.keep.ensures.kept ∙ ap (λ (l : List LogEntry). l ++ c.args.entry ∷ []) c.reserve.ensures.kept))
     (c.keep.ensures.all ∙ ap (λ (l : List LogEntry). l ++ c.args.entry ∷ []) c.reserve.ensures.all)
     (c.keep.ensures.kept ∙ ap (λ (l : List LogEntry). l ++ c.args.entry ∷ []) c.reserve.ensures.kept)

@@ -48,7 +48,7 @@ returns-clause-kept c =
     let log = c.self.inside.log in
     let within : c.args.page < length c.self.inside.pages.items = omega (arith, c.requires.page, ap (λ (v : MemoryView). length v.start) c.self.view_is, length-undone c.self.inside.pages.items (taken_pages log.kept) c.self.inside.replaced.items) in
     let content = c.replace-before.new.dest in
-    same_view _ _ _ _ _ _ _ _ c.self.inside.plans.items c.self.inside.calls c.self.inside.faults c.self.inside.reads
+    same_view _ _ _ _ _ _ _ _ c.self.inside.plans.items c.self.inside.failing_reads.items c.self.inside.failing_rooms.items c.self.inside.lies.items c.self.inside.calls c.self.inside.faults c.self.inside.reads c.self.inside.rooms
     (start-write c.self.inside.pages.items c.self.inside.replaced.items c.push_reserved.new.self.items log.kept log.all c.keep.new.self.kept c.keep.new.self.all c.args.page content c.replace-before.result c.args.end was.0 within
     (was_there c.self.inside.pages.items c.args.page c.index_mut.result.now c.replace-before.result c.replace-before.ensures.value c.index_mut.ensures.value) c.requires.taken
     (replaced_more c.self.inside.replaced.items c.reserve-else-is_err.new.self.items c.push_reserved.new.self.items c.replace-before.result c.push_reserved.ensures.items c.reserve-else-is_err.ensures.items)

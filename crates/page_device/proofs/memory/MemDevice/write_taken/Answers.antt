@@ -9,4 +9,4 @@ pub returns-then-take_write-clause-call : goal.returns-then-take_write-clause-ca
 returns-then-take_write-clause-call c =
     let e = c.if-take_write.ensures.kept in
     fault_counted _ c.args.self.now c.take_write.new.self c.count_fault.new.self _ c.count_fault.ensures.alone
-    (kept_call _ c.args.self.now c.take_write.new.self (Write c.args.page c.args.from.now Taken) (inl refl) (ap (λ (v : MemoryView). v.start) e) (ap (λ (v : MemoryView). v.all) e) (ap (λ (v : MemoryView). v.reads) e))
+    (kept_call _ c.args.self.now c.take_write.new.self (Write c.args.page c.args.from.now Taken) (inl refl) (ap (λ (v : MemoryView). v.start) e) (ap (λ (v : MemoryView). v.all) e) (ap (λ (v : MemoryView). v.reads) e) (ap (λ (v : MemoryView). v.lies) e))

@@ -10,4 +10,4 @@ returns-then-keep_quiet-clause-call c =
     let e = c.if-keep_quiet.ensures.kept in
     let f = c.next_plan.ensures.counted in
     kept_call _ c.args.self.now c.keep_quiet.new.self (Flush Done) refl (ap (λ (v : MemoryView). v.start) e ∙ ap (λ (v : MemoryView). v.start) f)
-    (ap (λ (v : MemoryView). v.all) e ∙ ap (λ (v : MemoryView). v.all ++ Flush Done ∷ []) f) (ap (λ (v : MemoryView). v.reads) e ∙ ap (λ (v : MemoryView). v.reads) f)
+    (ap (λ (v : MemoryView). v.all) e ∙ ap (λ (v : MemoryView). v.all ++ Flush Done ∷ []) f) (ap (λ (v : MemoryView). v.reads) e ∙ ap (λ (v : MemoryView). v.reads) f) (ap (λ (v : MemoryView). v.lies) e ∙ ap (λ (v : MemoryView). v.lies) f)
