@@ -10,6 +10,8 @@ mod numbers;
 mod prints;
 mod shape;
 mod superblock;
+#[cfg(test)]
+mod tests;
 mod zeros;
 
 pub use entries::{count_entry, map_entry, set_count_entry, set_map_entry};
