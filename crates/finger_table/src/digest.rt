@@ -1,5 +1,5 @@
 // The fingerprint of a content.
-ghost use Rattle.std.specs.Prelude.{◌≡◌, ◌≤◌};
+ghost use Rattle.std.specs.Prelude.{◌≡◌};
 ghost use Rattle.page_layout.specs.Fingerprint.{fingerprint_of};
 
 use page_device::Page;

@@ -1,5 +1,5 @@
 // The lists of pages, one for each value of a print's first two bytes.
-ghost use Rattle.std.specs.Prelude.{◌≡◌, ◌≢◌, ℕ, ◌+◌, ◌<◌, ◌≤◌, List, true, None, Some, OnOk, IsOk, vec_len, vec_capacity, length, insert, remove};
+ghost use Rattle.std.specs.Prelude.{◌≡◌, ◌≢◌, ◌<◌, ◌≤◌, ℕ, true, OnOk, IsOk, vec_len, length, insert, remove};
 ghost use Rattle.finger_table.specs.Order.{print_in};
 ghost use Rattle.finger_table.specs.Index.{list_at, has_room};
 

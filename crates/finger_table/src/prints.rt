@@ -1,8 +1,7 @@
 // The prints of all data pages.
-ghost use Rattle.std.specs.Prelude.{◌≡◌, ◌≢◌, ℕ, ◌+◌, ◌<◌, ◌≤◌, ◌↔◌, List, true, None, Some, OnOk, OnErr, IsOk, vec_len, length, slice_index, insert, remove, replicate, [], ◌++◌};
+ghost use Rattle.std.specs.Prelude.{◌≡◌, ◌≢◌, ◌↔◌, ℕ, List, true, None, Some, OnOk, OnErr, IsOk};
 ghost use Rattle.std.specs.List.Sorted.{IsStrictlyIncreasing};
-ghost use Rattle.finger_table.specs.Order.{rank, key_of, print_in, bucket_of};
-ghost use Rattle.finger_table.specs.Index.{print_at, is_ready, list_at, has_room, StandsIn};
+ghost use Rattle.finger_table.specs.Index.{print_at, is_ready, StandsIn};
 
 use crate::lists::{lengthen, put_page, reserve, take_page};
 use crate::order::{list_of, part_of, place};
@@ -13,7 +12,12 @@ use std::marker::Model;
 /// The print of each data page that has one, and the pages of each print.
 ///
 /// A table has the print of each page, and 65,536 lists, one for each value of a print's first two
-/// bytes, have the pages in the order of their prints.
+/// bytes, have the pages in the order of their prints. So a print of a fair hash is looked up among
+/// some 16 of a million. An image whose prints all begin alike has them in one list: a look-up is then
+/// logarithmic still, and an insert or a remove moves up to 4 bytes for each print behind it.
+///
+/// Memory: 24 bytes for each page up to the highest with a print, 4 for each print, each at most
+/// doubled while they grow, and 1.5 MiB for the lists.
 #[derive(Drop)]
 pub struct Prints {
     alloc: Global,
@@ -59,8 +63,7 @@ impl Prints {
         }
     }
 
-    /// The pages that have a print, in rising order. Logarithmic in the pages whose prints have the
-    /// same first two bytes, of which there are about a 65,536th, and at worst all.
+    /// The pages that have a print, in rising order. Logarithmic in the pages of the print's list.
     pub fn candidates(&self, print: &[u8; 20]) -> &[u32]
         ensures rising { IsStrictlyIncreasing result.now }
         ensures exact { (p : ℕ) → (StandsIn result.now p ↔ (print_at self.now p ≡ Some print.now)) }
@@ -72,7 +75,8 @@ impl Prints {
     }
 
     /// Makes room for a print of a page: one `insert` of this pair can't fail then, and a `remove`
-    /// takes none of the room. After an error nothing is changed. Constant time, amortized.
+    /// takes none of the room. After an error nothing is changed. Constant time, amortized; the first
+    /// one makes the lists.
     pub fn reserve(&mut self, print: &[u8; 20], p: u32) -> Result<(), NoMemory>
         ensures ready { OnOk result (is_ready self.new print.now p ≡ true) }
         ensures prints { (q : ℕ) → print_at self.new q ≡ print_at self.old q }
@@ -97,7 +101,7 @@ impl Prints {
     }
 
     /// Gives a page this print, in place of the one that it had. After an error nothing is changed.
-    /// Costs what `candidates` does, and moves the later pages of the list.
+    /// Logarithmic in the pages of the print's list, beside a move of those behind the page.
     pub fn insert(&mut self, print: &[u8; 20], p: u32) -> Result<(), NoMemory>
         ensures here { OnOk result (print_at self.new p ≡ Some print.now) }
         ensures others { (q : ℕ) → q ≢ p → print_at self.new q ≡ print_at self.old q }

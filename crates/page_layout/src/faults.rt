@@ -1,5 +1,5 @@
 // The first malformed entry of a table page.
-ghost use Rattle.std.specs.Prelude.{◌≡◌, ℕ, ◌+◌, ◌-◌, ◌*◌, ◌<◌, ◌≤◌, ◌↔◌, length, IsTrue, IsNone, IsSome, IfSome, true, false};
+ghost use Rattle.std.specs.Prelude.{◌≡◌, ◌+◌, ◌*◌, ◌<◌, ◌↔◌, length, IsTrue, IsNone, IsSome, IfSome, true, false};
 ghost use Rattle.page_layout.specs.Tables.{IsPrintEntry, AreZero};
 ghost use Rattle.page_layout.specs.declared.shape.Table.{Table};
 ghost use Rattle.page_layout.specs.Entries.{table_at, entries_of, IsTablePage, IsEntry, IsNumberEntry, IsPrintPlace, IsFirstFault};

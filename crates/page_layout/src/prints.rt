@@ -1,5 +1,5 @@
 // The entries of print pages: 170 a page, each a flag, three zero bytes and the 20 of a fingerprint.
-ghost use Rattle.std.specs.Prelude.{◌≡◌, ◌+◌, ◌*◌, ◌<◌, ◌≤◌, length};
+ghost use Rattle.std.specs.Prelude.{◌≡◌, ◌<◌};
 ghost use Rattle.page_layout.specs.Tables.{print_entry_of};
 ghost use Rattle.page_layout.specs.Entries.{print_bytes, SetsPrint};
 

@@ -1,5 +1,5 @@
 // Page 0 of an image.
-ghost use Rattle.std.specs.Prelude.{◌≡◌, ℕ, ◌↔◌, ◌++◌, length, drop, replicate, slice_index, IsTrue, IfOk, OnOk, OnErr};
+ghost use Rattle.std.specs.Prelude.{◌≡◌, ◌↔◌, length, replicate, IsTrue, IfOk, OnOk, OnErr};
 ghost use Rattle.page_layout.specs.Shape.{magic, told_shape, IsSuperblock};
 
 use crate::Shape;
