@@ -18,21 +18,21 @@ pub number_back : (front rest : List ℕ) (at value : ℕ) → length front ≡ 
 unfolding number_at
 number_back front rest at value l h = rw (drop_at front (little_bytes 4 value ++ rest) at l) (little_number-reads_back 4 value rest h)
 
--- each other byte stays
-pub other_bytes : (p : List ℕ) (at k : ℕ) (bytes : List ℕ) → length bytes ≡ 4 → at + 4 ≤ length p → (k < at) ⊎ (at + 4 ≤ k) → slice_index (take at p ++ (bytes ++ drop 4 (drop at p))) k ≡ slice_index p k
-other_bytes p at k bytes l fits (inl before) = search (rules, places)
-other_bytes p at k bytes l fits (inr behind) =
-    get_or-append_right (take at p) (bytes ++ drop 4 (drop at p)) at k 0 (omega (arith, length-take at p)) (omega arith)
-    ∙ get_or-append_right bytes (drop 4 (drop at p)) 4 (k - at) 0 l (omega arith)
-    ∙ get_or-drop 4 (drop at p) (k - at - 4) 0 ∙ get_or-drop at p (4 + (k - at - 4)) 0
-    ∙ ap (λ (n : ℕ). get_or p n 0) (omega arith)
+-- each byte outside of those that are replaced stays
+pub other_bytes : (p : List ℕ) (at n k : ℕ) (bytes : List ℕ) → length bytes ≡ n → at + n ≤ length p → (k < at) ⊎ (at + n ≤ k) → slice_index (take at p ++ (bytes ++ drop n (drop at p))) k ≡ slice_index p k
+other_bytes p at n k bytes l fits (inl before) = search (rules, places)
+other_bytes p at n k bytes l fits (inr behind) =
+    get_or-append_right (take at p) (bytes ++ drop n (drop at p)) at k 0 (omega (arith, length-take at p)) (omega arith)
+    ∙ get_or-append_right bytes (drop n (drop at p)) n (k - at) 0 l (omega arith)
+    ∙ get_or-drop n (drop at p) (k - at - n) 0 ∙ get_or-drop at p (n + (k - at - n)) 0
+    ∙ ap (λ (m : ℕ). get_or p m 0) (omega arith)
 
 -- a write of four bytes
 pub sets_number : (p : List ℕ) (at value : ℕ) (new : List ℕ) → at + 4 ≤ length p → value < 2 ^ 32 → new ≡ take at p ++ (little_bytes 4 value ++ drop 4 (drop at p)) → SetsNumber p at value new
 sets_number p at value new fits h is = record {
   number = ap (λ (l : List ℕ). number_at l at) is ∙ number_back (take at p) (drop 4 (drop at p)) at value (omega (arith, length-take at p)) h;
   length = ap length is ∙ simp (length-append, length-take, length-drop) (omega arith);
-  others = λ k out. ap (λ (l : List ℕ). slice_index l k) is ∙ other_bytes p at k (little_bytes 4 value) refl fits out;
+  others = λ k out. ap (λ (l : List ℕ). slice_index l k) is ∙ other_bytes p at 4 k (little_bytes 4 value) refl fits out;
 }
 
 -- entries stand apart

@@ -1,4 +1,5 @@
 pub mod Numbers
 pub mod Shape
 pub mod Tables
+pub mod Entries
 pub mod Fingerprint

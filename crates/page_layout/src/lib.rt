@@ -5,10 +5,17 @@
 #![tactic(auto)]
 
 mod entries;
+mod faults;
 mod numbers;
+mod prints;
 mod shape;
 mod superblock;
+#[cfg(test)]
+mod tests;
+mod zeros;
 
 pub use entries::{count_entry, map_entry, set_count_entry, set_map_entry};
-pub use shape::{BadShape, Shape};
+pub use faults::table_fault;
+pub use prints::{print_entry, set_print_entry};
+pub use shape::{BadShape, Shape, Table};
 pub use superblock::{NotFormatted, read_super, super_page};

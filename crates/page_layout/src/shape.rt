@@ -1,6 +1,7 @@
 // The shape of an image, and the places in it.
 ghost use Rattle.std.specs.Prelude.{◌≡◌, ◌+◌, ◌^◌, ◌≤◌, ◌<◌, ◌↔◌, IsOk, IfOk, IsSome, IfSome};
-ghost use Rattle.page_layout.specs.Shape.{IsValid, count_pages, first_count_page, first_data_page, total, map_page, map_place, count_page, count_place, data_page};
+ghost use Rattle.page_layout.specs.Shape.{IsValid, count_pages, first_count_page, first_print_page, first_data_page, total, map_page, map_place, count_page, count_place, print_page, print_place, data_page};
+ghost use Rattle.page_layout.specs.Entries.{table_at};
 
 use std::marker::Model;
 
@@ -10,13 +11,24 @@ const MAX_PAGES: u32 = 1_048_576;
 
 const LAST_VERSION: u32 = 2;
 // Entries of a map page or a count page, and of a print page.
-const NUMBERS: u32 = 1024;
+pub(crate) const NUMBERS: u32 = 1024;
 
-const PRINTS: u32 = 170;
+pub(crate) const PRINTS: u32 = 170;
 
 /// The numbers of blocks or of data pages are outside their limits.
 #[derive(Clone, Copy, Debug, PartialEq, Eq, Drop)]
 pub struct BadShape;
+
+/// What a page between the superblock and the data pages serves.
+#[derive(Clone, Copy, Debug, PartialEq, Eq, Drop)]
+pub enum Table {
+    /// For each block the data page that it names.
+    Map,
+    /// For each data page how often it is counted.
+    Count,
+    /// For each data page its fingerprint, if it has one.
+    Print,
+}
 
 /// How many logical blocks and data pages an image has, and its version: 1 to 4,194,304 blocks, 1 to
 /// 1,048,576 data pages, version 1 or 2.
@@ -94,6 +106,15 @@ impl Shape {
         self.first_count_page() + self.count_pages() + print_pages
     }
 
+    /// The first page of the prints: the count pages are those before it.
+    pub fn first_print_page(&self) -> u32
+        ensures place { result ≡ first_print_page self.now }
+        ensures before { result < first_data_page self.now }
+    {
+        let _ = &self.pages;
+        self.first_count_page() + self.count_pages()
+    }
+
     /// The number of pages of an image of this shape.
     pub fn total(&self) -> u32
         ensures { result ≡ total self.now }
@@ -127,6 +148,36 @@ impl Shape {
             self.first_count_page() + (p - 1) / NUMBERS,
             (p - 1) % NUMBERS,
         )
+    }
+
+    /// The device page and the entry in it of the print of a data page, numbered from 1.
+    pub fn print_place(&self, p: u32) -> (u32, u32)
+        requires first { 1 ≤ p }
+        requires last { p ≤ self.now.pages }
+        ensures page { result.0 ≡ print_page self.now p }
+        ensures entry { result.1 ≡ print_place p }
+        ensures within { result.0 < total self.now }
+        ensures in_page { result.1 < 170 }
+    {
+        let _ = &self.pages;
+        (self.first_print_page() + (p - 1) / PRINTS, (p - 1) % PRINTS)
+    }
+
+    /// The table that a device page serves: none for the superblock, for data pages and for pages at
+    /// or above the total. Constant time.
+    pub fn table_of(&self, page: u32) -> Option<Table>
+        ensures { result ≡ table_at self.now page }
+    {
+        if page == 0 || page >= self.first_data_page() {
+            return None;
+        }
+        if page < self.first_count_page() {
+            return Some(Table::Map);
+        }
+        if page < self.first_print_page() {
+            return Some(Table::Count);
+        }
+        Some(Table::Print)
     }
 
     /// The device page that is a data page, numbered from 1.

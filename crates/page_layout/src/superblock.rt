@@ -1,9 +1,10 @@
 // Page 0 of an image.
-ghost use Rattle.std.specs.Prelude.{◌≡◌, ℕ, ◌↔◌, ◌++◌, length, drop, replicate, slice_index, IsTrue, IfOk, OnOk, OnErr};
+ghost use Rattle.std.specs.Prelude.{◌≡◌, ◌↔◌, length, replicate, IsTrue, IfOk, OnOk, OnErr};
 ghost use Rattle.page_layout.specs.Shape.{magic, told_shape, IsSuperblock};
 
 use crate::Shape;
 use crate::numbers::{number, set_number};
+use crate::zeros::is_zero;
 use page_device::Page;
 
 const MAGIC: [u8; 8] = *b"OMDEDUP1";
@@ -17,18 +18,6 @@ fn is_magic(bytes: &[u8]) -> bool
     ensures { IsTrue result ↔ (bytes.now ≡ magic) }
 {
     bytes == MAGIC.as_slice()
-}
-
-// Each byte is zero.
-fn is_zero(bytes: &[u8]) -> bool
-    ensures { IsTrue result ↔ ((k : ℕ) → slice_index bytes.now k ≡ 0) }
-{
-    for byte in bytes {
-        if *byte != 0 {
-            return false;
-        }
-    }
-    true
 }
 
 /// The superblock of a shape: the eight bytes `OMDEDUP1`, then the version, the number of blocks and

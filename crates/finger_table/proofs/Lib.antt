@@ -1,0 +1,5 @@
+pub mod Ranks
+pub mod ListFunctions
+pub mod Found
+pub mod Edited
+pub mod Ranges
