@@ -54,10 +54,10 @@ module _ (lay : Layout) (top : ℕ) (w : World) (rest : AtRest w) where
         barred_before = λ a b h. absurd (no_barred a b h);
         barred_after = λ a b h. absurd (no_barred a b h);
         acyclic = acyclic_none w.live rest.live;
-        kinds = λ a b h. absurd (elim h [ inl l ↦ no_edge a b l | inr r ↦ no_barred a b r ]);
         settled = λ a c is y z q. rest.one a c q ∙ sym (rest.cached a);
         clean = λ a is y. sym (rest.cached a);
       };
+      edge_kinds = λ a b h. absurd (elim h [ inl l ↦ no_edge a b l | inr r ↦ no_barred a b r ]);
       count_balance = λ p d. record {
         enough =
             let names : cached_names lay w p ≡ count_below lay.blocks (λ l. eqb (newest_name lay w l) p) = count_ext lay.blocks _ _ (λ l lt. ap (λ n. eqb n p) (name l)) in

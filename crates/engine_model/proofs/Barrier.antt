@@ -2,7 +2,7 @@
 use Rattle.std.proofs.Common.{◌≡◌, ◌⊎◌, inl, inr, ◌<◌, ℕ, true, cond, eqb, arith, refl, sym, ◌∙◌, List, [], ◌∷◌, map, Some, true≢false}
 use Rattle.std.proofs.lemmas.Bool.{cases_eq}
 use Rattle.engine_model.specs.World.{Layout, World, Release, Queued, queued}
-use Rattle.engine_model.specs.Counts.{CountsInvariant, MarksAndEdges, Balanced, CoversNames, CoversPrints, OwesRelease, LostPrint, Covered, Near, Printed, NearPrinted}
+use Rattle.engine_model.specs.Counts.{CountsInvariant, MarksAndEdges, EdgeKinds, Balanced, CoversNames, CoversPrints, OwesRelease, LostPrint, Covered, Near, Printed, NearPrinted}
 use Rattle.engine_model.specs.Entries.{MayName, MayPrint, IsData, cached_name, cached_count, cached_print, newest_name, newest_count, newest_print}
 use Rattle.std.proofs.Common.{eq-eqb, ne_eqb}
 use Rattle.engine_model.proofs.Views.{name_same, count_same, print_same, names_same, newest_name_same, newest_count_same, newest_print_same}
@@ -92,13 +92,15 @@ module _ (lay : Layout) (top : ℕ) (w v : World) (old : CountsInvariant lay top
     barred_before = λ x y h. absurd (true≢false (rw (b.barred x y) at (sym h)));
     barred_after = λ x y h. absurd (true≢false (rw (b.barred x y) at (sym h)));
     acyclic = acyclic_fewer w.live v.live (λ x y h. sym (b.live x y) ∙ h) old.marks_and_edges.acyclic;
-    kinds = λ x y h. elim h [
-      | inl l ↦ old.marks_and_edges.kinds x y (inl (rw b.live at l))
-      | inr r ↦ absurd (true≢false (rw (b.barred x y) at (sym r)))
-    ];
     settled = λ page c t d h q. rw (b.possible page c q, b.cached) (old.marks_and_edges.clean page t (rw b.dirty at d));
     clean = λ page t d. rw (b.newest, b.cached) (old.marks_and_edges.clean page t (rw b.dirty at d));
   }
+
+  edge_kinds : EdgeKinds lay v
+  edge_kinds = λ x y h. elim h [
+    | inl l ↦ old.edge_kinds x y (inl (rw b.live at l))
+    | inr r ↦ absurd (true≢false (rw (b.barred x y) at (sym r)))
+  ]
 
   count_balance : (p : ℕ) → IsData lay p → Balanced lay v top p
   count_balance p is = record {
@@ -160,6 +162,7 @@ module _ (lay : Layout) (top : ℕ) (w v : World) (old : CountsInvariant lay top
   pub barrier_keeps : CountsInvariant lay top v
   barrier_keeps = record {
     marks_and_edges = marks_and_edges;
+    edge_kinds = edge_kinds;
     count_balance = count_balance;
     counts_cover_names = counts_cover_names;
     counts_cover_prints = counts_cover_prints;

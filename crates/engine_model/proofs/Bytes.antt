@@ -11,6 +11,7 @@ apart blocks pages well_formed zero_block finger = record {
     | inr t ↦ elim t.2 [ inl c ↦ omega (arith, t, d, e, c) | inr c ↦ omega (arith, t, d, e, c) ]
   ];
   data_data = λ q p d e ne same. ne (omega (arith, d, e, same));
+  map_count = λ l p lt d e. omega (arith, lt, d, e);
   map_print = λ l p lt d e. omega (arith, lt, d, e);
   count_print = λ q p d e same. omega (arith, d, e, same);
   first_table = λ page is e. elim is [

@@ -47,10 +47,10 @@ overwritten_engine = record {
     barred_before = λ a b h. absurd (true≢false (sym h));
     barred_after = λ a b h. absurd (true≢false (sym h));
     acyclic = acyclic_none overwritten.live (λ a b. refl);
-    kinds = λ a b h. absurd (elim h [ inl l ↦ true≢false (sym l) | inr r ↦ true≢false (sym r) ]);
     settled = λ page c is d h q. elim q [ inl e ↦ e ∙ sym (clean_page page is d) | inr x ↦ absurd x ];
     clean = λ page is d. sym (clean_page page is d);
   };
+  edge_kinds = λ a b h. absurd (elim h [ inl l ↦ true≢false (sym l) | inr r ↦ true≢false (sym r) ]);
   count_balance = λ p d. rw (only_page p d) (record { enough = omega arith; in_range = omega arith });
   counts_cover_names = λ p d. record {
     each = λ c q S h. elim q [ inl e ↦ rw e (one_block S) | inr x ↦ absurd x ];
@@ -170,10 +170,10 @@ stale_engine = record {
     barred_before = λ a b h. absurd (true≢false (sym h));
     barred_after = λ a b h. absurd (true≢false (sym h));
     acyclic = acyclic_none stale.live (λ a b. refl);
-    kinds = λ a b h. absurd (elim h [ inl l ↦ true≢false (sym l) | inr r ↦ true≢false (sym r) ]);
     settled = λ page c is d h q. elim q [ inl e ↦ e ∙ sym (stale_table page is) | inr x ↦ absurd x ];
     clean = λ page is d. sym (stale_table page is);
   };
+  edge_kinds = λ a b h. absurd (elim h [ inl l ↦ true≢false (sym l) | inr r ↦ true≢false (sym r) ]);
   count_balance = λ p d. rw (only_page p d) (record { enough = omega arith; in_range = omega arith });
   counts_cover_names = λ p d. record {
     each = λ c q S h. elim q [ inl e ↦ rw e (one_block S) | inr x ↦ absurd x ];

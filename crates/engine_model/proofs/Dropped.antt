@@ -25,7 +25,7 @@ module _ (lay : Layout) (top : ℕ) (w v : World) (p : ℕ) (apart : Apart lay) 
   print_apart q d = apart.table_data (lay.print_page q) p (inr (q, d, inr refl)) x.is_data
 
   no_edge : (a : ℕ) → HasEdge w a (lay.data_page p) → ⊥
-  no_edge = none_to_data lay w p apart old.marks_and_edges x.is_data
+  no_edge = none_to_data lay w p apart old.edge_kinds x.is_data
 
   no_live : (a : ℕ) → w.live a (lay.data_page p) ≡ false
   no_live a = false_from_ne_true _ (λ h. no_edge a (inl h))
@@ -73,12 +73,12 @@ module _ (lay : Layout) (top : ℕ) (w v : World) (p : ℕ) (apart : Apart lay) 
       barred_after = λ a b h. let was : w.barred a b ≡ true = sym (x.barred a b) ∙ h in
           x.dirty b (λ e. true≢false (sym was ∙ ap (λ y. w.barred a y) e ∙ no_barred a)) ∙ old.marks_and_edges.barred_after a b was;
       acyclic = acyclic_fewer w.live v.live (λ a b h. (live_parts a b h).2) old.marks_and_edges.acyclic;
-      kinds = λ a b h. old.marks_and_edges.kinds a b (elim h [ inl l ↦ inl (live_parts a b l).2 | inr r ↦ inr (sym (x.barred a b) ∙ r) ]);
       settled = λ a c is y z q. let ne = apart.table_data a p is x.is_data in
           old.marks_and_edges.settled a c is (sym (x.dirty a ne) ∙ y) (sym (x.hung a) ∙ z) (x.possible a c q) ∙ sym (x.cached a ne);
       clean = λ a is y. let ne = apart.table_data a p is x.is_data in
           x.newest a ∙ old.marks_and_edges.clean a is (sym (x.dirty a ne) ∙ y) ∙ sym (x.cached a ne);
     };
+    edge_kinds = λ a b h. old.edge_kinds a b (elim h [ inl l ↦ inl (live_parts a b l).2 | inr r ↦ inr (sym (x.barred a b) ∙ r) ]);
     count_balance = λ q d. record {
       enough = rw (names q, count q d, x.queue) (old.count_balance q d).enough;
       in_range = rw (count q d) (old.count_balance q d).in_range;

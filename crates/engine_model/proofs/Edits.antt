@@ -48,7 +48,6 @@ module _ (lay : Layout) (top : ℕ) (w v : World) (old : CountsInvariant lay top
     live_after = λ a b h. elim (e.live_ends a b h) [ inl l ↦ e.dirty_kept b (old.marks_and_edges.live_after a b l) | inr n ↦ n.1 ];
     barred_before = λ a b h. elim (e.barred_ends a b h) [ inl l ↦ e.hung a ∙ old.marks_and_edges.barred_before a b l | inr n ↦ n.0 ];
     barred_after = λ a b h. elim (e.barred_ends a b h) [ inl l ↦ e.dirty_kept b (old.marks_and_edges.barred_after a b l) | inr n ↦ n.1 ];
-    kinds = λ a b h. elim (e.kinds a b h) [ inl was ↦ old.marks_and_edges.kinds a b was | inr is ↦ is ];
     settled = λ a c is d h q. old.marks_and_edges.settled a c is (not_dirty a d) (sym (e.hung a) ∙ h) (e.possible a c q) ∙ sym (e.cached_clean a is d);
     clean = λ a is d. e.newest a ∙ old.marks_and_edges.clean a is (not_dirty a d) ∙ sym (e.cached_clean a is d);
   }
@@ -130,6 +129,7 @@ module _ (lay : Layout) (top : ℕ) (w v : World) (old : CountsInvariant lay top
   pub edits_keep : CountsInvariant lay top v
   edits_keep = record {
     marks_and_edges = marks_and_edges;
+    edge_kinds = λ a b h. elim (e.kinds a b h) [ inl was ↦ old.edge_kinds a b was | inr is ↦ is ];
     count_balance = count_balance;
     counts_cover_names = counts_cover_names;
     counts_cover_prints = counts_cover_prints;

@@ -49,7 +49,7 @@ module _ (lay : Layout) (top : ℕ) (sound : Bool) (format : Format lay top) whe
       → EngineInvariant lay top sound n × ((l : ℕ) → l < lay.blocks → Has (block_in lay n.world.newest l) (m.array l))
   next_session m n counted tables k rest is array calls all every pool =
       let fit = image_reads lay sound m.array m.world n.world.newest k.contents is in (
-        session_start lay top sound n counted tables rest (image_fits lay top m.world n.world.newest k.engine is)
+        session_start lay top sound n counted tables rest (image_fits lay top m.world n.world.newest k.counts is)
             (λ p d. format.counts p _ d (fit.well_formed _ (inr (p, d, inl refl))))
             (record {
               reads = λ l lt. record {

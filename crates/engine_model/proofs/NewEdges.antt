@@ -2,7 +2,7 @@
 use Rattle.std.proofs.Common.{◌≡◌, ◌⊎◌, inl, inr, ◌<◌, ℕ, refl, sym, subst}
 use Rattle.engine_model.specs.World.{Layout, World, Release}
 use Rattle.engine_model.specs.Entries.{EdgeKind, HasEdge, IsTable, IsData}
-use Rattle.engine_model.specs.Counts.{MarksAndEdges}
+use Rattle.engine_model.specs.Counts.{EdgeKinds}
 use Rattle.engine_model.specs.Paths.{IsAcyclic, Closes}
 use Rattle.engine_model.specs.Known.{Known}
 use Rattle.engine_model.specs.Entries.{Apart}
@@ -16,11 +16,11 @@ to_table lay a b (inl k) = elim k.1 [ inl m ↦ inl m | inr f ↦ inr (f.0, f.1,
 to_table lay a b (inr k) = inr (k.1.0, k.1.1, inl k.1.2)
 
 -- no edge leads to a data page
-pub none_to_data : (lay : Layout) (w : World) (p : ℕ) → Apart lay → MarksAndEdges lay w → IsData lay p → (a : ℕ) → HasEdge w a (lay.data_page p) → ⊥
-none_to_data lay w p apart m d a h = apart.table_data (lay.data_page p) p (to_table lay a _ (m.kinds a _ h)) d refl
+pub none_to_data : (lay : Layout) (w : World) (p : ℕ) → Apart lay → EdgeKinds lay w → IsData lay p → (a : ℕ) → HasEdge w a (lay.data_page p) → ⊥
+none_to_data lay w p apart m d a h = apart.table_data (lay.data_page p) p (to_table lay a _ (m a _ h)) d refl
 
 -- so none from a data page to a table page closes
-pub data_open : (lay : Layout) (w : World) (p b : ℕ) → Apart lay → MarksAndEdges lay w → IsData lay p → IsTable lay b → Closes w.live (lay.data_page p) b → ⊥
+pub data_open : (lay : Layout) (w : World) (p b : ℕ) → Apart lay → EdgeKinds lay w → IsData lay p → IsTable lay b → Closes w.live (lay.data_page p) b → ⊥
 data_open lay w p b apart m d t (inl same) = apart.table_data b p t d (sym same)
 data_open lay w p b apart m d t (inr way) = let q = way_ends way in none_to_data lay w p apart m d q.0 (inl q.1)
 
@@ -58,7 +58,7 @@ module _ (lay : Layout) (w : World) (l p : ℕ) (lt : l < lay.blocks) (d : IsDat
   )
 
   -- no way leads to a data page, and the two ways to the count page are free
-  pub mandatory_open : Apart lay → MarksAndEdges lay w → (Closes w.live (lay.count_page p) (lay.map_page l) → ⊥)
+  pub mandatory_open : Apart lay → EdgeKinds lay w → (Closes w.live (lay.count_page p) (lay.map_page l) → ⊥)
       → (a b x y : ℕ) → Mandatory lay w l p a b → Mandatory lay w l p x y → Closes w.live a y → ⊥
   mandatory_open apart marks free a b x y m k h = elim m.0 [
     | inr c ↦ elim k.1 [

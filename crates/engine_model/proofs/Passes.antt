@@ -155,7 +155,7 @@ module _ (lay : Layout) (top : ℕ) (sound : Bool) (apart : Apart lay) where
   ]
 
   range_of : (m : Moment) (r : Release) → EngineInvariant lay top sound m → Member r m.world.queue → (r.block < lay.blocks) × IsData lay r.page
-  range_of m r k is = k.engine.lost_name_owes_release.in_range r.block r.page r.stage (member_queued r m.world.queue is)
+  range_of m r k is = k.counts.lost_name_owes_release.in_range r.block r.page r.stage (member_queued r m.world.queue is)
 
   -- another release that is blocked stays so
   module _ (m n : Moment) (r other : Release) (before after : List Release) (k : EngineInvariant lay top sound m) (x : Lowers lay m n r before after) (is : Member other before) where
@@ -169,7 +169,7 @@ module _ (lay : Layout) (top : ℕ) (sound : Bool) (apart : Apart lay) where
     -- two releases of one page stand on a count of at least 2
     other_page : cached_count lay m.world other.page ≡ 1 → other.page ≢ r.page
     other_page one e =
-        let enough = (k.engine.count_balance other.page other_range).enough in
+        let enough = (k.counts.count_balance other.page other_range).enough in
         let more = member_counts other (before ++ after) (member_left other before after is) in
         let both : queued m.world.queue other.page ≡ cond (eqb r.page other.page) 1 0 + queued (before ++ after) other.page =
         ap (λ rs. queued rs other.page) x.applied.was_queued ∙ queued_out before after r other.page in
@@ -194,7 +194,7 @@ module _ (lay : Layout) (top : ℕ) (sound : Bool) (apart : Apart lay) where
     way_survives : {a b : ℕ} → a ≢ lay.data_page p → LivePath m.world.live a b → LivePath n.world.live a b
     way_survives {a = a} {b = b} ne (leg e) = leg (d.live a b ne ∙ e)
     way_survives {a = a} ne (via {b = b} e q) = via (d.live a b ne ∙ e)
-        (way_survives (λ same. none_to_data lay m.world p apart k.engine.marks_and_edges d.is_data a (inl (subst (λ z. m.world.live a z ≡ true) same e))) q)
+        (way_survives (λ same. none_to_data lay m.world p apart k.counts.edge_kinds d.is_data a (inl (subst (λ z. m.world.live a z ≡ true) same e))) q)
 
     closes_survives : (a c : ℕ) → c ≢ lay.data_page p → Closes m.world.live a c → Closes n.world.live a c
     closes_survives a c ne (inl e) = inl e
@@ -202,13 +202,13 @@ module _ (lay : Layout) (top : ℕ) (sound : Bool) (apart : Apart lay) where
 
     dropped_blocked : (r : Release) → IsData lay r.page → IsBlocked lay (known_at lay m) m.world r → IsBlocked lay (known_at lay n) n.world r
     dropped_blocked r is b =
-        let ne = dropped.count_apart lay top m.world n.world p apart k.engine d r.page is in
+        let ne = dropped.count_apart lay top m.world n.world p apart k.counts d r.page is in
         elim b [
           | inl z ↦ inl (z.0, closes_survives _ _ ne z.1)
           | inr f ↦ inr (
             (
-              dropped.count lay top m.world n.world p apart k.engine d r.page is ∙ f.0.0,
-              (f.0.1.0, dropped.print_is lay top m.world n.world p apart k.engine d r.page is ∙ f.0.1.1),
+              dropped.count lay top m.world n.world p apart k.counts d r.page is ∙ f.0.0,
+              (f.0.1.0, dropped.print_is lay top m.world n.world p apart k.counts d r.page is ∙ f.0.1.1),
               ap (λ cs. is_unborn (Print r.page) (lay.print_page r.page) 1 cs) calls ∙ f.0.2,
             ),
             closes_survives _ _ ne f.1,
@@ -280,15 +280,15 @@ module _ (lay : Layout) (top : ℕ) (sound : Bool) (apart : Apart lay) where
       drops_live : (j n : Moment) (p : ℕ) → EngineInvariant lay top sound j → Drops lay j n p → (a b : ℕ) → n.world.live a b ≡ true → j.world.live a b ≡ true
       drops_live j n p low x a b h = elim x.world [
         | inl e ↦ sym (e.live a b) ∙ h
-        | inr d ↦ (dropped.live_parts lay top j.world n.world p apart low.engine d a b h).2
+        | inr d ↦ (dropped.live_parts lay top j.world n.world p apart low.counts d a b h).2
       ]
 
   -- after every page was written and fixed, a pass applies every release
   pub drained_pass : (m n : Moment) → EngineInvariant lay top sound m → ((a : ℕ) → m.world.dirty a ≡ false) → Pass lay m [] m.world.queue n → n.world.queue ≡ []
   drained_pass m n k clean p = pass_empties m n m.world.queue k refl
-      (λ r is z. true≢false (sym (k.engine.lost_name_owes_release.dirty r.block r.page (range_of m r k is).0
+      (λ r is z. true≢false (sym (k.counts.lost_name_owes_release.dirty r.block r.page (range_of m r k is).0
       (subst (λ s. Queued m.world.queue r.block r.page s) z (member_queued r m.world.queue is))) ∙ clean _))
-      (λ a b h. absurd (true≢false (sym (k.engine.marks_and_edges.live_before a b h) ∙ clean a))) p
+      (λ a b h. absurd (true≢false (sym (k.counts.marks_and_edges.live_before a b h) ∙ clean a))) p
 
   -- a drain: every page is written and fixed, a pass is made, and every page is written and fixed again
   pub drained_twice : (m n : Moment) (ns : List Moment) → EngineInvariant lay top sound m → NoNode m → Pass lay m [] m.world.queue n → DeviceRun lay top n ns → (last_of n ns).world.queue ≡ []

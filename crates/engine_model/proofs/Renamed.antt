@@ -219,7 +219,7 @@ module _ (lay : Layout) (known : Known) (top : ℕ) (w v : World) (l o p : ℕ) 
     live_ends = x.rest.live_ends;
     barred_ends = x.rest.barred_ends;
     kinds = kinds_kept lay w v _ _ x.edges (mandatory_kind lay w l p x.released.in_range x.is_data) (mandatory_kind lay w l p x.released.in_range x.is_data);
-    acyclic = acyclic_kept lay w v _ _ x.edges old.marks_and_edges.acyclic (mandatory_open lay w l p x.released.in_range x.is_data apart old.marks_and_edges x.no_cycle);
+    acyclic = acyclic_kept lay w v _ _ x.edges old.marks_and_edges.acyclic (mandatory_open lay w l p x.released.in_range x.is_data apart old.edge_kinds x.no_cycle);
     name_gained = λ k q lt d h. elim (cases_eq k l) [
       | inr ne ↦ inl (sym (x.released.other_names k lt ne) ∙ h)
       | inl e ↦

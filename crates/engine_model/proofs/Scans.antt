@@ -77,7 +77,7 @@ module _ (lay : Layout) (top : ℕ) (sound : Bool) (apart : Apart lay) where
       let n = last_of m ns in
       let all = scan_counts 1 m ns k (λ q d lt. absurd (omega (arith, d))) s in
       let page : (a : ℕ) → IsTable lay a → image a ≡ n.world.cached a =
-      λ a t. all.0.engine.marks_and_edges.settled a (image a) t (settled a t).0 (settled a t).1 (is a) in
+      λ a t. all.0.counts.marks_and_edges.settled a (image a) t (settled a t).0 (settled a t).1 (is a) in
       let count : (p : ℕ) → IsData lay p → lay.count_in (image (lay.count_page p)) p ≡ cached_count lay n.world p =
       λ p d. ap (λ c. lay.count_in c p) (page _ (inr (p, d, inl refl))) in
       let print : (p : ℕ) → IsData lay p → lay.print_in (image (lay.print_page p)) p ≡ cached_print lay n.world p =
@@ -102,7 +102,7 @@ pub session_start : (lay : Layout) (top : ℕ) (sound : Bool) (m : Moment) (coun
     → ((p : ℕ) → IsData lay p → (Listed p counted → 0 < cached_count lay m.world p) × (0 < cached_count lay m.world p → Listed p counted)) → ((p : ℕ) → IsData lay p → Listed (lay.count_page p) tables)
     → Agree m.pool (after_fixed (written_all lay tables (taken_all counted new_pool))) → EngineInvariant lay top sound m
 session_start lay top sound m counted tables rest fit below contents alone calls all every pool = record {
-  engine = start lay top m.world rest fit below;
+  counts = start lay top m.world rest fit below;
   contents = start_contents lay top m.world rest sound m.array contents alone;
   births = λ slot is. subst (λ cs. BirthKnown lay m.world cs slot) (sym calls) (start_births lay m.world slot rest);
   pool_knows_counts = λ p d. subst (λ f. PoolKnows lay m.world f p) (sym (pool p)) (start_knows lay m.world counted tables rest all every p d);

@@ -42,7 +42,7 @@ tells lay top sound m k = record {
 
 pub fits : (lay : Layout) (top : ℕ) (sound : Bool) (n : Moment) → EngineInvariant lay top sound n → (image : ℕ → List ℕ) → CrashImage n.world image
     → CountsFit lay image × ContentsFit lay sound image n.array
-fits lay top sound n k image is = (image_fits lay top n.world image k.engine is, image_reads lay sound n.array n.world image k.contents is)
+fits lay top sound n k image is = (image_fits lay top n.world image k.counts is, image_reads lay sound n.array n.world image k.contents is)
 
 pub pool_by : (lay : Layout) (n : Moment) (pool : ℕ → Told) → Agree n.pool pool → ((p : ℕ) → IsData lay p → PoolKnows lay n.world (pool p) p) → (p : ℕ) → IsData lay p
     → PoolKnows lay n.world (n.pool p) p
@@ -94,7 +94,7 @@ module _ (lay : Layout) (top : ℕ) (sound : Bool) (apart : Apart lay) (m n : Mo
 
   pub same_kept : (contents : ContentsInvariant lay sound n.array n.world) → Same m.world n.world → n.calls ≡ m.calls → Agree n.pool m.pool → EngineInvariant lay top sound n
   same_kept contents e calls pool = record {
-    engine = subst (λ x. CountsInvariant lay top x) (sym (same_is m.world n.world e)) k.engine;
+    counts = subst (λ x. CountsInvariant lay top x) (sym (same_is m.world n.world e)) k.counts;
     contents = contents;
     births = births_by m.calls calls (λ slot is. subst (λ x. BirthKnown lay x m.calls slot) (sym (same_is m.world n.world e)) (k.births slot is));
     pool_knows_counts = pool_by lay n m.pool pool (λ p d. subst (λ x. PoolKnows lay x (m.pool p) p) (sym (same_is m.world n.world e)) (k.pool_knows_counts p d));
@@ -102,79 +102,79 @@ module _ (lay : Layout) (top : ℕ) (sound : Bool) (apart : Apart lay) (m n : Mo
 
   pub step_keeps : Step lay top m n → EngineInvariant lay top sound n
   step_keeps (BarrierDone b e calls pool) = record {
-    engine = barrier_keeps lay top m.world n.world k.engine b;
+    counts = barrier_keeps lay top m.world n.world k.counts b;
     contents = same_array e (barrier_contents lay sound m.array m.world n.world k.contents b);
     births = births_by _ calls (λ slot is. fixed_births lay m.world n.world m.calls slot (k.births slot is) b);
     pool_knows_counts = pool_by lay n _ pool (λ p d. fixed_knows lay m.world n.world m.pool p (k.pool_knows_counts p d) b);
   }
   step_keeps (WriteDone page t s e calls pool) = record {
-    engine = write_done_keeps lay top m.world n.world page k.engine t s;
-    contents = same_array e (done_contents lay top sound m.array m.world n.world page k.engine k.contents t s);
+    counts = write_done_keeps lay top m.world n.world page k.counts t s;
+    contents = same_array e (done_contents lay top sound m.array m.world n.world page k.counts k.contents t s);
     births = births_by _ calls (λ slot is. done_births lay m.world n.world m.calls slot page (k.births slot is) t s);
     pool_knows_counts = pool_by lay n _ pool (λ p d. written_knows lay m.world n.world page m.pool p (k.pool_knows_counts p d) t);
   }
   step_keeps (WriteTaken page t s e calls pool) = record {
-    engine = write_taken_keeps lay top m.world n.world page k.engine t s;
-    contents = same_array e (taken_contents lay top sound m.array m.world n.world page k.engine k.contents t s);
+    counts = write_taken_keeps lay top m.world n.world page k.counts t s;
+    contents = same_array e (taken_contents lay top sound m.array m.world n.world page k.counts k.contents t s);
     births = births_by _ calls (λ slot is. failed_births lay m.world n.world m.calls slot page (k.births slot is) t s);
     pool_knows_counts = pool_by lay n _ pool (λ p d. failed_knows lay m.world n.world page m.pool p (k.pool_knows_counts p d) t);
   }
   step_keeps (WriteRefused page w e calls pool) = record {
-    engine = subst (λ x. CountsInvariant lay top x) (sym (same_is m.world n.world w)) k.engine;
+    counts = subst (λ x. CountsInvariant lay top x) (sym (same_is m.world n.world w)) k.counts;
     contents = same_array e (same_world m.array w k.contents);
     births = births_by _ calls (λ slot is. tried_births lay n.world m.calls slot page (subst (λ x. BirthKnown lay x m.calls slot) (sym (same_is m.world n.world w)) (k.births slot is)));
     pool_knows_counts = pool_by lay n _ pool (λ p d. tried_knows lay n.world n.world page m.pool p (subst (λ x. PoolKnows lay x (m.pool p) p) (sym (same_is m.world n.world w)) (k.pool_knows_counts p d)));
   }
   step_keeps (Unchanged s e calls pool) = same_kept (same_array e (same_world m.array s k.contents)) s calls pool
   step_keeps (ReleaseApplied r before after a data_kept e births pool) = record {
-    engine = applied_keeps lay (known_at lay m) top m.world n.world r before after k.engine knows a;
-    contents = same_array e (applied_contents lay (known_at lay m) top sound m.array m.world n.world r before after knows a data_kept k.engine k.contents);
+    counts = applied_keeps lay (known_at lay m) top m.world n.world r before after k.counts knows a;
+    contents = same_array e (applied_contents lay (known_at lay m) top sound m.array m.world n.world r before after knows a data_kept k.counts k.contents);
     births = edited a.rest births;
     pool_knows_counts = zeroed_pool r.page a.rest a.count_other (λ pos. omega (arith, a.count_here)) pool;
   }
   step_keeps (Discard l o x d gain births pool) = record {
-    engine = discard_keeps lay (known_at lay m) top m.world n.world l o k.engine knows x;
-    contents = discard_contents lay (known_at lay m) top sound m.array n.array m.world n.world l o x d gain k.engine k.contents;
+    counts = discard_keeps lay (known_at lay m) top m.world n.world l o k.counts knows x;
+    contents = discard_contents lay (known_at lay m) top sound m.array n.array m.world n.world l o x d gain k.counts k.contents;
     births = edited x.rest births;
     pool_knows_counts = pool_by lay n m.pool pool (λ q d. same_knows lay m.world n.world (m.pool q) q x.rest (x.counts q d) (k.pool_knows_counts q d));
   }
   step_keeps (Write l o p content x c gain births pool) = record {
-    engine = rename_keeps lay (known_at lay m) top m.world n.world l o p apart k.engine knows x;
-    contents = write_contents_kept lay (known_at lay m) top sound m.array n.array m.world n.world l o p content knows x c gain k.engine k.contents;
+    counts = rename_keeps lay (known_at lay m) top m.world n.world l o p apart k.counts knows x;
+    contents = write_contents_kept lay (known_at lay m) top sound m.array n.array m.world n.world l o p content knows x c gain k.counts k.contents;
     births = edited x.rest births;
     pool_knows_counts = taken_pool p x.rest x.count_other x.is_data x.count_here pool;
   }
   step_keeps (WriteAgain l p is name w gain calls pool) = same_kept
-      (same_world n.array w (again_contents lay top sound m.array n.array m.world l p _ is name refl gain k.engine k.contents)) w calls pool
+      (same_world n.array w (again_contents lay top sound m.array n.array m.world l p _ is name refl gain k.counts k.contents)) w calls pool
   step_keeps (Fold l o p is x c e births pool) = record {
-    engine = rename_keeps lay (known_at lay m) top m.world n.world l o p apart k.engine knows x;
-    contents = same_array e (fold_contents lay (known_at lay m) top sound m.array m.world n.world l o p is knows x c k.engine k.contents);
+    counts = rename_keeps lay (known_at lay m) top m.world n.world l o p apart k.counts knows x;
+    contents = same_array e (fold_contents lay (known_at lay m) top sound m.array m.world n.world l o p is knows x c k.counts k.contents);
     births = edited x.rest births;
     pool_knows_counts = taken_pool p x.rest x.count_other x.is_data x.count_here pool;
   }
   step_keeps (DiscardAgain l z w gain calls pool) = same_kept
-      (same_world n.array w (again_zero_contents lay top sound m.array n.array m.world l z gain k.engine k.contents)) w calls pool
+      (same_world n.array w (again_zero_contents lay top sound m.array n.array m.world l z gain k.counts k.contents)) w calls pool
   step_keeps (FoldZero l o is zeros x d e births pool) = record {
-    engine = discard_keeps lay (known_at lay m) top m.world n.world l o k.engine knows x;
-    contents = same_array e (fold_zero_contents lay (known_at lay m) top sound m.array m.world n.world l o is zeros x d k.engine k.contents);
+    counts = discard_keeps lay (known_at lay m) top m.world n.world l o k.counts knows x;
+    contents = same_array e (fold_zero_contents lay (known_at lay m) top sound m.array m.world n.world l o is zeros x d k.counts k.contents);
     births = edited x.rest births;
     pool_knows_counts = pool_by lay n m.pool pool (λ q d. same_knows lay m.world n.world (m.pool q) q x.rest (x.counts q d) (k.pool_knows_counts q d));
   }
   step_keeps (DropData p x e calls pool) = record {
-    engine = dropped.drop_keeps lay top m.world n.world p apart k.engine x;
-    contents = same_array e (dropped.drop_contents lay top m.world n.world p apart k.engine x sound m.array k.contents);
-    births = births_by m.calls calls (λ slot is. dropped.drop_births lay top m.world n.world p apart k.engine x m.calls slot is (k.births slot is));
-    pool_knows_counts = pool_by lay n m.pool pool (λ q d. dropped.drop_pool lay top m.world n.world p apart k.engine x (m.pool q) q d (k.pool_knows_counts q d));
+    counts = dropped.drop_keeps lay top m.world n.world p apart k.counts x;
+    contents = same_array e (dropped.drop_contents lay top m.world n.world p apart k.counts x sound m.array k.contents);
+    births = births_by m.calls calls (λ slot is. dropped.drop_births lay top m.world n.world p apart k.counts x m.calls slot is (k.births slot is));
+    pool_knows_counts = pool_by lay n m.pool pool (λ q d. dropped.drop_pool lay top m.world n.world p apart k.counts x (m.pool q) q d (k.pool_knows_counts q d));
   }
   step_keeps (Correct p x d e births pool) = record {
-    engine = correct_keeps lay top m.world n.world p apart k.engine x;
-    contents = same_array e (correct_contents lay top sound m.array m.world n.world p x d k.engine k.contents);
+    counts = correct_keeps lay top m.world n.world p apart k.counts x;
+    contents = same_array e (correct_contents lay top sound m.array m.world n.world p x d k.counts k.contents);
     births = edited x.rest births;
-    pool_knows_counts = zeroed_pool p x.rest x.count_other (λ pos. let few = (k.engine.count_balance p x.is_data).enough in omega (arith, x.count_here)) pool;
+    pool_knows_counts = zeroed_pool p x.rest x.count_other (λ pos. let few = (k.counts.count_balance p x.is_data).enough in omega (arith, x.count_here)) pool;
   }
   step_keeps (FlushDone clean e alone calls pool) = same_kept
       (same_world n.array e (flush_contents lay sound m.array n.array m.world k.contents
-      (λ page c t q. k.engine.marks_and_edges.settled page c t (clean page).0 (clean page).1 q) (λ page. (clean page).0) alone)) e calls pool
+      (λ page c t q. k.counts.marks_and_edges.settled page c t (clean page).0 (clean page).1 q) (λ page. (clean page).0) alone)) e calls pool
 
 pub run_keeps : (lay : Layout) (top : ℕ) (sound : Bool) → Apart lay → (m : Moment) (ns : List Moment) → EngineInvariant lay top sound m → Run lay top m ns → Each (EngineInvariant lay top sound) ns
 run_keeps lay top sound apart m [] k r = tt

@@ -17,6 +17,7 @@ pub printed_apart : Apart printed
 printed_apart = record {
   table_data = λ page p is d e. elim (tables page is) [ inl t ↦ omega (arith, t, e) | inr o ↦ elim o [ inl t ↦ omega (arith, t, e) | inr t ↦ omega (arith, t, e) ] ];
   data_data = λ q p d e ne same. ne (omega (arith, d, e));
+  map_count = λ l p lt d e. omega (arith, e);
   map_print = λ l p lt d e. omega (arith, e);
   count_print = λ q p d e same. omega (arith, same);
   first_table = λ page is e. elim (tables page is) [ inl t ↦ omega (arith, t, e) | inr o ↦ elim o [ inl t ↦ omega (arith, t, e) | inr t ↦ omega (arith, t, e) ] ];

@@ -14,7 +14,7 @@ use Rattle.engine_model.specs.Invariant.{EngineInvariant, Moment}
 use Rattle.engine_model.specs.VersionSwitch.{Clear, Edited, Fix, Idle, PageDone, PageRefused, PageTaken, SwitchImage, SwitchRun, SwitchStart, SwitchStep, Switching, Stamp, with_finger}
 use Rattle.engine_model.proofs.Births.{settled_births}
 use Rattle.engine_model.proofs.Pool.{tried_knows, failed_knows, written_knows, fixed_knows}
-use Rattle.engine_model.proofs.Switches as restamps
+use Rattle.engine_model.proofs.Switches as switches
 use Rattle.engine_model.proofs.Same.{same_is}
 use mathlib.Core.Path.{fun_ext}
 use Rattle.engine_model.specs.DeviceSteps.{Same}
@@ -46,7 +46,7 @@ module _ (lay : Layout) (top : ℕ) (sound : Bool) (next : List ℕ) (was : Mome
 
   start_held : Held lay next was was
   start_held = record {
-    world = restamps.restamp_start lay top sound was.array next was.world apart s.kept.engine s.kept.contents s.queue s.clean;
+    world = switches.switch_start lay top sound was.array next was.world apart s.kept.counts s.kept.contents s.queue s.clean;
     array = λ l. refl;
     births = none_recorded;
     pool = s.kept.pool_knows_counts;
@@ -69,31 +69,31 @@ module _ (lay : Layout) (top : ℕ) (sound : Bool) (next : List ℕ) (was : Mome
 
     step_held : SwitchStep lay next was m n → Held lay next was n
     step_held (Clear page x a c p) = record {
-      world = restamps.clear_keeps lay top sound was.array next was.world apart s.kept.engine s.kept.contents s.queue s.clean m.world n.world h.world page x;
+      world = switches.clear_keeps lay top sound was.array next was.world apart s.kept.counts s.kept.contents s.queue s.clean m.world n.world h.world page x;
       array = λ l. a l ∙ h.array l;
       births = calls_by m.calls c h.births;
       pool = pool_by lay n m.pool p (edited_pool page x.edited (λ q d e. apart.count_print q x.is_print.0 d x.is_print.1 (e ∙ x.is_print.2)));
     }
     step_held (Stamp x a c p) = record {
-      world = restamps.stamp_keeps lay top sound was.array next was.world apart s.kept.engine s.kept.contents s.queue s.clean m.world n.world h.world x;
+      world = switches.stamp_keeps lay top sound was.array next was.world apart s.kept.counts s.kept.contents s.queue s.clean m.world n.world h.world x;
       array = λ l. a l ∙ h.array l;
       births = calls_by m.calls c h.births;
       pool = pool_by lay n m.pool p (edited_pool 0 x.edited (λ q d. apart.first_table _ (inr (q, d, inl refl))));
     }
     step_held (Fix b a c p) = record {
-      world = restamps.fix_keeps lay top sound was.array next was.world apart s.kept.engine s.kept.contents s.queue s.clean m.world n.world h.world b;
+      world = switches.fix_keeps lay top sound was.array next was.world apart s.kept.counts s.kept.contents s.queue s.clean m.world n.world h.world b;
       array = λ l. a l ∙ h.array l;
       births = calls_by _ c (λ slot is. fixed_off (place_of lay slot) slot m.calls (h.births slot is));
       pool = pool_by lay n _ p (λ q d. fixed_knows lay m.world n.world m.pool q (h.pool q d) b);
     }
     step_held (PageDone page t moves a c p) = record {
-      world = restamps.done_restamps lay top sound was.array next was.world apart s.kept.engine s.kept.contents s.queue s.clean m.world n.world h.world page t moves;
+      world = switches.done_switches lay top sound was.array next was.world apart s.kept.counts s.kept.contents s.queue s.clean m.world n.world h.world page t moves;
       array = λ l. a l ∙ h.array l;
       births = calls_by _ c (λ slot is. h.births slot is);
       pool = pool_by lay n _ p (λ q d. written_knows lay m.world n.world page m.pool q (h.pool q d) t);
     }
     step_held (PageTaken page t keeps a c p) = record {
-      world = restamps.taken_restamps lay top sound was.array next was.world apart s.kept.engine s.kept.contents s.queue s.clean m.world n.world h.world page t keeps;
+      world = switches.taken_switches lay top sound was.array next was.world apart s.kept.counts s.kept.contents s.queue s.clean m.world n.world h.world page t keeps;
       array = λ l. a l ∙ h.array l;
       births = calls_by _ c (λ slot is. h.births slot is);
       pool = pool_by lay n _ p (λ q d. failed_knows lay m.world n.world page m.pool q (h.pool q d) t);
@@ -107,9 +107,9 @@ module _ (lay : Layout) (top : ℕ) (sound : Bool) (next : List ℕ) (was : Mome
     image_held : (n : Moment) → Held lay next was n → (image : ℕ → List ℕ) → CrashImage n.world image → SwitchImage lay sound next was.world was.array finger image
     image_held n h image is = record {
       version = elim (h.world.first_page (image 0) (is 0)) [ inl e ↦ inl e | inr e ↦ inr e.0 ];
-      counts = restamps.restamp_counts lay top sound was.array next was.world apart s.kept.engine s.kept.contents s.queue s.clean n.world h.world image is;
-      old = λ e. restamps.restamp_old lay top sound was.array next was.world apart s.kept.engine s.kept.contents s.queue s.clean n.world h.world image is;
-      new = restamps.restamp_new lay top sound was.array next was.world apart s.kept.engine s.kept.contents s.queue s.clean n.world h.world image is finger differ;
+      counts = switches.switch_counts lay top sound was.array next was.world apart s.kept.counts s.kept.contents s.queue s.clean n.world h.world image is;
+      old = λ e. switches.switch_old lay top sound was.array next was.world apart s.kept.counts s.kept.contents s.queue s.clean n.world h.world image is;
+      new = switches.switch_new lay top sound was.array next was.world apart s.kept.counts s.kept.contents s.queue s.clean n.world h.world image is finger differ;
     }
 
     run_held : (m : Moment) (ns : List Moment) → Held lay next was m → SwitchRun lay next was m ns
@@ -117,9 +117,9 @@ module _ (lay : Layout) (top : ℕ) (sound : Bool) (next : List ℕ) (was : Mome
     run_held m [] h r = tt
     run_held m (n ∷ ns) h r = let now = step_held m n h r.0 in (image_held n now, run_held n ns now r.1)
 
-    pub restamp_images : (ns : List Moment) → SwitchRun lay next was was ns
+    pub switch_images : (ns : List Moment) → SwitchRun lay next was was ns
         → Each (λ n. (image : ℕ → List ℕ) → CrashImage n.world image → SwitchImage lay sound next was.world was.array finger image) ns
-    restamp_images ns r = run_held was ns start_held r
+    switch_images ns r = run_held was ns start_held r
 
     same_place : (slot : Slot) → place_of (with_finger lay finger) slot ≡ place_of lay slot
     same_place (Name l) = refl
@@ -132,14 +132,14 @@ module _ (lay : Layout) (top : ℕ) (sound : Bool) (next : List ℕ) (was : Mome
     end_kept : (n : Moment) → Held lay next was n → ((a : ℕ) → (n.world.dirty a ≡ false) × (n.world.hung a ≡ false)) → n.world.cached 0 ≡ next
         → EngineInvariant (with_finger lay finger) top true n
     end_kept n h done stamped =
-        let engine = restamps.restamp_engine lay top sound was.array next was.world apart s.kept.engine s.kept.contents s.queue s.clean n.world h.world done stamped differ finger in
+        let first = switches.switch_counts_kept lay top sound was.array next was.world apart s.kept.counts s.kept.contents s.queue s.clean n.world h.world done stamped differ finger in
         record {
-          engine = engine;
+          counts = first;
           contents = subst (λ a. ContentsInvariant (with_finger lay finger) true a n.world) (sym (fun_ext h.array))
-              (restamps.restamp_contents lay top sound was.array next was.world apart s.kept.engine s.kept.contents s.queue s.clean n.world h.world done stamped differ finger);
+              (switches.switch_contents lay top sound was.array next was.world apart s.kept.counts s.kept.contents s.queue s.clean n.world h.world done stamped differ finger);
           births = λ slot is. settled_births (with_finger lay finger) n.world n.calls slot
               (subst (λ page. is_changed slot (since page n.calls) ≡ false) (sym (same_place slot)) (h.births slot (same_is_slot slot is)))
-              (λ c q. engine.marks_and_edges.settled _ c (slot_table (with_finger lay finger) slot is) (done _).0 (done _).1 q);
+              (λ c q. first.marks_and_edges.settled _ c (slot_table (with_finger lay finger) slot is) (done _).0 (done _).1 q);
           pool_knows_counts = λ p d. let old = h.pool p d in record { zero = old.zero; above = old.above; possible = old.possible; newest = old.newest };
         }
 
@@ -147,8 +147,8 @@ module _ (lay : Layout) (top : ℕ) (sound : Bool) (next : List ℕ) (was : Mome
     last_held m [] h r = h
     last_held m (n ∷ ns) h r = last_held n ns (step_held m n h r.0) r.1
 
-    pub restamp_ends : (ns : List Moment) → SwitchRun lay next was was ns → ((a : ℕ) → ((last_of was ns).world.dirty a ≡ false) × ((last_of was ns).world.hung a ≡ false))
+    pub switch_ends : (ns : List Moment) → SwitchRun lay next was was ns → ((a : ℕ) → ((last_of was ns).world.dirty a ≡ false) × ((last_of was ns).world.hung a ≡ false))
         → (last_of was ns).world.cached 0 ≡ next → EngineInvariant (with_finger lay finger) top true (last_of was ns) × ((c : List ℕ) → Possible (last_of was ns).world 0 c → c ≡ next)
-    restamp_ends ns r done stamped =
+    switch_ends ns r done stamped =
         let h = last_held was ns start_held r in
         (end_kept (last_of was ns) h done stamped, λ c q. h.world.settled 0 c (inl refl) (done 0).0 (done 0).1 q ∙ stamped)

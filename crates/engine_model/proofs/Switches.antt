@@ -14,15 +14,15 @@ use Rattle.engine_model.proofs.Graphs.{acyclic_none}
 use Rattle.engine_model.proofs.Views.{names_by, none_some}
 
 module _ (lay : Layout) (top : ℕ) (sound : Bool) (array : ℕ → List (List ℕ)) (next : List ℕ) (was : World) (apart : Apart lay)
-    (engine : CountsInvariant lay top was) (contents : ContentsInvariant lay sound array was) (queue : was.queue ≡ []) (clean : (a : ℕ) → (was.dirty a ≡ false) × (was.hung a ≡ false)) where
+    (first : CountsInvariant lay top was) (contents : ContentsInvariant lay sound array was) (queue : was.queue ≡ []) (clean : (a : ℕ) → (was.dirty a ≡ false) × (was.hung a ≡ false)) where
   no_live : (a b : ℕ) → was.live a b ≡ false
-  no_live a b = false_from_ne_true _ (λ h. true≢false (sym (engine.marks_and_edges.live_before a b h) ∙ (clean a).0))
+  no_live a b = false_from_ne_true _ (λ h. true≢false (sym (first.marks_and_edges.live_before a b h) ∙ (clean a).0))
 
   no_barred : (a b : ℕ) → was.barred a b ≡ false
-  no_barred a b = false_from_ne_true _ (λ h. true≢false (sym (engine.marks_and_edges.barred_before a b h) ∙ (clean a).1))
+  no_barred a b = false_from_ne_true _ (λ h. true≢false (sym (first.marks_and_edges.barred_before a b h) ∙ (clean a).1))
 
   table_one : (a : ℕ) (c : List ℕ) → IsTable lay a → Possible was a c → c ≡ was.cached a
-  table_one a c is q = engine.marks_and_edges.settled a c is (clean a).0 (clean a).1 q
+  table_one a c is q = first.marks_and_edges.settled a c is (clean a).0 (clean a).1 q
 
   print_table : (a : ℕ) → IsPrint lay a → IsTable lay a
   print_table a f = inr (f.0, f.1, inr f.2)
@@ -30,8 +30,8 @@ module _ (lay : Layout) (top : ℕ) (sound : Bool) (array : ℕ → List (List �
   not_first : (a : ℕ) → IsPrint lay a → a ≢ 0
   not_first a f = apart.first_table a (print_table a f)
 
-  pub restamp_start : Switching lay next was was
-  restamp_start = record {
+  pub switch_start : Switching lay next was was
+  switch_start = record {
     queue = queue;
     live = no_live;
     barred = no_barred;
@@ -46,7 +46,7 @@ module _ (lay : Layout) (top : ℕ) (sound : Bool) (array : ℕ → List (List �
     ];
     clean = λ a is d. elim is [
       | inl e ↦ ap was.newest e ∙ sym contents.first_page.cached ∙ ap was.cached (sym e)
-      | inr f ↦ engine.marks_and_edges.clean a (print_table a f) d
+      | inr f ↦ first.marks_and_edges.clean a (print_table a f) d
     ];
   }
 
@@ -187,12 +187,12 @@ module _ (lay : Layout) (top : ℕ) (sound : Bool) (array : ℕ → List (List �
         ];
       }
 
-    pub taken_restamps : (page : ℕ) → Taken w v page → KeepsMarks w v → Switching lay next was v
-    taken_restamps page t m = write_keeps page t (λ e. m.queue ∙ e) (λ a b h. sym (m.live a b) ∙ h) (λ a b h. inr (sym (m.barred a b) ∙ h))
+    pub taken_switches : (page : ℕ) → Taken w v page → KeepsMarks w v → Switching lay next was v
+    taken_switches page t m = write_keeps page t (λ e. m.queue ∙ e) (λ a b h. sym (m.live a b) ∙ h) (λ a b h. inr (sym (m.barred a b) ∙ h))
         (λ a ne. m.dirty a) (λ a ne. m.hung a) (λ a y. sym (m.dirty a) ∙ y) (inl (m.dirty page ∙ t.was_dirty))
 
-    pub done_restamps : (page : ℕ) → Taken w v page → MovesMarks lay w v page → Switching lay next was v
-    done_restamps page t m = write_keeps page t (λ e. m.queue ∙ ap (map _) e) (λ a b h. (and_parts _ _ (sym (m.live a b) ∙ h)).0)
+    pub done_switches : (page : ℕ) → Taken w v page → MovesMarks lay w v page → Switching lay next was v
+    done_switches page t m = write_keeps page t (λ e. m.queue ∙ ap (map _) e) (λ a b h. (and_parts _ _ (sym (m.live a b) ∙ h)).0)
         (λ a b h. elim (or_cases _ _ (sym (m.barred a b) ∙ h)) [ inl r ↦ inr r | inr l ↦ inl (and_parts _ _ l).0 ])
         (λ a ne. m.dirty a ∙ and_other (w.dirty a) _ (ne_eqb a page ne)) (λ a ne. m.hung a ∙ or_other (w.hung a) _ (ne_eqb a page ne))
         (λ a y. (and_parts _ _ (sym (m.dirty a) ∙ y)).0) (inr (m.hung page ∙ or_here (w.hung page) _ (eq-eqb page page refl)))
@@ -245,15 +245,15 @@ module _ (lay : Layout) (top : ℕ) (sound : Bool) (array : ℕ → List (List �
         | inr none ↦ absurd (none_some print (sym (none.none p d refl) ∙ h))
       ]
 
-      pub restamp_counts : CountsFit lay image
-      restamp_counts = record {
+      pub switch_counts : CountsFit lay image
+      switch_counts = record {
         names = λ p d.
-            let fit = (engine.count_balance p d).enough in
+            let fit = (first.count_balance p d).enough in
             let same = count_ext lay.blocks (λ l. eqb (lay.name_in (image (lay.map_page l)) l) p) (λ l. eqb (cached_name lay was l) p)
             (λ l lt. ap (λ c. eqb (lay.name_in c l) p) (map_one l _ lt (is _))) in
             let count : lay.count_in (image (lay.count_page p)) p ≡ cached_count lay was p = ap (λ c. lay.count_in c p) (count_one p _ d (is _)) in
             omega arith;
-        prints = λ p print d h. subst (λ c. 0 < lay.count_in c p) (sym (count_one p _ d (is _))) (engine.print_needs_count p print d (image_print p print d h));
+        prints = λ p print d h. subst (λ c. 0 < lay.count_in c p) (sym (count_one p _ d (is _))) (first.print_needs_count p print d (image_print p print d h));
       }
 
       image_data : (p l : ℕ) → IsData lay p → l < lay.blocks → MayName lay was p l → image (lay.data_page p) ≡ was.newest (lay.data_page p)
@@ -281,16 +281,16 @@ module _ (lay : Layout) (top : ℕ) (sound : Bool) (array : ℕ → List (List �
       }
 
       -- a print of the first version is of the page as it stands
-      pub restamp_old : ContentsFit lay sound image array
-      restamp_old = reads sound lay.finger (λ p print s d h.
+      pub switch_old : ContentsFit lay sound image array
+      switch_old = reads sound lay.finger (λ p print s d h.
           let was_print = image_print p print d h in
-          let may : MayPrint lay was p print = record { content = was.cached (lay.print_page p); possible = inl (sym (engine.marks_and_edges.clean _ (inr (p, d, inr refl)) (clean _).0)); has = was_print } in
+          let may : MayPrint lay was p print = record { content = was.cached (lay.print_page p); possible = inl (sym (first.marks_and_edges.clean _ (inr (p, d, inr refl)) (clean _).0)); has = was_print } in
           let data_same : image (lay.data_page p) ≡ was.newest (lay.data_page p) = ((contents.named_data_fixed p d).printed print may).one _ ((data_kept p d).possible _ (is _)) in
           (contents.prints_true s p d).possible print may ∙ ap lay.finger (sym data_same))
 
       -- with the other first page no print is left
-      pub restamp_new : (finger : List ℕ → List ℕ) → next ≢ was.newest 0 → image 0 ≡ next → ContentsFit (with_finger lay finger) true image array
-      restamp_new finger differ e = reads true finger (λ p print s d h. absurd (elim (now.first_page (image 0) (is 0)) [
+      pub switch_new : (finger : List ℕ → List ℕ) → next ≢ was.newest 0 → image 0 ≡ next → ContentsFit (with_finger lay finger) true image array
+      switch_new finger differ e = reads true finger (λ p print s d h. absurd (elim (now.first_page (image 0) (is 0)) [
         | inl same ↦ differ (sym e ∙ same)
         | inr new ↦ none_some print (sym (((new.1 p d).none _ (is _)).none p d refl) ∙ h)
       ]))
@@ -332,15 +332,14 @@ module _ (lay : Layout) (top : ℕ) (sound : Bool) (array : ℕ → List (List �
       named_cached : (p l : ℕ) → l < lay.blocks → MayName (with_finger lay finger) w p l → cached_name lay w l ≡ p
       named_cached p l lt n = name l lt ∙ ap (λ c. lay.name_in c l) (sym (map_one l n.content lt n.possible)) ∙ n.names
 
-      pub restamp_engine : CountsInvariant (with_finger lay finger) top w
-      restamp_engine = record {
+      pub switch_counts_kept : CountsInvariant (with_finger lay finger) top w
+      switch_counts_kept = record {
         marks_and_edges = record {
           acyclic = acyclic_none w.live now.live;
           live_before = λ a b h. absurd (true≢false (sym h ∙ now.live a b));
           live_after = λ a b h. absurd (true≢false (sym h ∙ now.live a b));
           barred_before = λ a b h. absurd (true≢false (sym h ∙ now.barred a b));
           barred_after = λ a b h. absurd (true≢false (sym h ∙ now.barred a b));
-          kinds = λ a b h. absurd (elim h [ inl l ↦ true≢false (sym l ∙ now.live a b) | inr r ↦ true≢false (sym r ∙ now.barred a b) ]);
           settled = λ a c t d h q. elim t [
             | inl m ↦ map_one m.0 c m.1 (subst (λ z. Possible w z c) m.2 q) ∙ sym (map_kept m.0 m.1).cached ∙ ap w.cached (sym m.2)
             | inr f ↦ elim f.2 [
@@ -356,13 +355,14 @@ module _ (lay : Layout) (top : ℕ) (sound : Bool) (array : ℕ → List (List �
             ]
           ];
         };
+        edge_kinds = λ a b h. absurd (elim h [ inl l ↦ true≢false (sym l ∙ now.live a b) | inr r ↦ true≢false (sym r ∙ now.barred a b) ]);
         count_balance = λ p d. record {
-          enough = rw (names p, count p d, now.queue) (rw queue at (engine.count_balance p d).enough);
-          in_range = rw (count p d) (engine.count_balance p d).in_range;
+          enough = rw (names p, count p d, now.queue) (rw queue at (first.count_balance p d).enough);
+          in_range = rw (count p d) (first.count_balance p d).in_range;
         };
         counts_cover_names = λ p d. record {
-          each = λ c q S h. (engine.counts_cover_names p d).each c ((count_kept p d).possible c q) S (λ l lt s. covered p l lt (h l lt s));
-          newest = λ S h. rw (ap (λ c. lay.count_in c p) (count_kept p d).newest) ((engine.counts_cover_names p d).newest S (λ l lt s. near p l lt (h l lt s)));
+          each = λ c q S h. (first.counts_cover_names p d).each c ((count_kept p d).possible c q) S (λ l lt s. covered p l lt (h l lt s));
+          newest = λ S h. rw (ap (λ c. lay.count_in c p) (count_kept p d).newest) ((first.counts_cover_names p d).newest S (λ l lt s. near p l lt (h l lt s)));
         };
         counts_cover_prints = λ p d. record {
           each = λ c print q h. absurd (elim h [ inl n ↦ no_print p print d n | inr n ↦ no_cached p print d n.0 ]);
@@ -392,8 +392,8 @@ module _ (lay : Layout) (top : ℕ) (sound : Bool) (array : ℕ → List (List �
         ])
       ]
 
-      pub restamp_contents : ContentsInvariant (with_finger lay finger) true array w
-      restamp_contents = record {
+      pub switch_contents : ContentsInvariant (with_finger lay finger) true array w
+      switch_contents = record {
         fresh_data_first = λ p d. record {
           name_dirty = λ l lt n y. absurd (true≢false (sym y ∙ (done _).0));
           name_hung = λ l lt n y. absurd (true≢false (sym y ∙ (done _).1));
@@ -414,7 +414,7 @@ module _ (lay : Layout) (top : ℕ) (sound : Bool) (array : ℕ → List (List �
         };
         prints_true = λ s p d. record { possible = λ print n. absurd (no_print p print d n); cached = λ print n. absurd (no_cached p print d n) };
         well_formed = record {
-          possible = λ a c t q. subst (λ x. lay.well_formed a x ≡ true) (sym ((restamp_engine).marks_and_edges.settled a c t (done a).0 (done a).1 q)) (table_formed a t);
+          possible = λ a c t q. subst (λ x. lay.well_formed a x ≡ true) (sym ((switch_counts_kept).marks_and_edges.settled a c t (done a).0 (done a).1 q)) (table_formed a t);
           cached = table_formed;
         };
         first_page = record { one = λ c q. now.settled 0 c (inl refl) (done 0).0 (done 0).1 q ∙ sym (now.clean 0 (inl refl) (done 0).0); clean = (done 0).0; cached = sym (now.clean 0 (inl refl) (done 0).0) };

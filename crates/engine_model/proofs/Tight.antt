@@ -141,9 +141,9 @@ module _ (lay : Layout) (top : ℕ) (apart : Apart lay) (m n : Moment) (k : Engi
   step_tight (WriteAgain l p i x w g c e) h = cache_tight lay m.world n.world old (λ q d. step_waste lay top true apart m n k q d (WriteAgain l p i x w g c e) tt) w.cached
   step_tight (DiscardAgain l z w g c e) h = cache_tight lay m.world n.world old (λ q d. step_waste lay top true apart m n k q d (DiscardAgain l z w g c e) tt) w.cached
   step_tight (DropData q x e c z) h = kept_tight lay m.world n.world old (λ p d. step_waste lay top true apart m n k p d (DropData q x e c z) tt)
-      (λ p is pos. let count = dropped.count lay top m.world n.world q apart k.engine x p is in (
+      (λ p is pos. let count = dropped.count lay top m.world n.world q apart k.counts x p is in (
         subst (λ y. 0 < y) count pos,
-        dropped.print_is lay top m.world n.world q apart k.engine x p is,
+        dropped.print_is lay top m.world n.world q apart k.counts x p is,
         x.cached _ (apart.data_data p q is x.is_data (λ same. omega (arith, x.no_count, pos, count, ap (cached_count lay m.world) same))),
       ))
   step_tight (Correct p x d e b q) h = corrected_tight p x d
@@ -169,7 +169,7 @@ start_tight lay w rest tight =
 module _ (lay : Layout) (top : ℕ) (m : Moment) (k : EngineInvariant lay top true m) (tight : IsTight lay m.world) (done : NoNode m) (empty : m.world.queue ≡ [])
     (image : ℕ → List ℕ) (is : CrashImage m.world image) where
   table_is : (a : ℕ) → IsTable lay a → image a ≡ m.world.cached a
-  table_is a t = k.engine.marks_and_edges.settled a (image a) t (done a).0 (done a).1 (is a)
+  table_is a t = k.counts.marks_and_edges.settled a (image a) t (done a).0 (done a).1 (is a)
 
   count_is : (p : ℕ) → IsData lay p → lay.count_in (image (lay.count_page p)) p ≡ cached_count lay m.world p
   count_is p d = ap (λ c. lay.count_in c p) (table_is _ (inr (p, d, inl refl)))
@@ -182,7 +182,7 @@ module _ (lay : Layout) (top : ℕ) (m : Moment) (k : EngineInvariant lay top tr
 
   no_print : (p : ℕ) → IsData lay p → cached_count lay m.world p ≡ 0 → (print : Option (List ℕ)) → cached_print lay m.world p ≡ print → print ≡ None
   no_print p d zero None e = refl
-  no_print p d zero (Some x) e = absurd (let pos = k.engine.print_needs_count p x d e in omega arith)
+  no_print p d zero (Some x) e = absurd (let pos = k.counts.print_needs_count p x d e in omega arith)
 
   pub end_tight : ImageTight lay image
   end_tight = record {

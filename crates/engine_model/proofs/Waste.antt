@@ -32,16 +32,16 @@ module _ (lay : Layout) (top : ℕ) (sound : Bool) (apart : Apart lay) (m n : Mo
   step_waste (WriteTaken page t s e c q) h = left lay m.world n.world p t.cached (ap (λ rs. queued rs p) s.queue)
   step_waste (WriteRefused page w e c q) h = world_same lay m.world n.world p w
   step_waste (Unchanged s e c q) h = world_same lay m.world n.world p s
-  step_waste (ReleaseApplied r before after a d e b q) h = applied_waste lay (known_at lay m) top m.world n.world r before after k.engine (tells lay top sound m k) a p is
-  step_waste (Discard l o x d g b e) h = discard_waste lay (known_at lay m) top m.world n.world l o k.engine (tells lay top sound m k) x p is
-  step_waste (Write l o q content x c g b e) h = write_waste lay (known_at lay m) top m.world n.world l o q apart k.engine (tells lay top sound m k) x p is
+  step_waste (ReleaseApplied r before after a d e b q) h = applied_waste lay (known_at lay m) top m.world n.world r before after k.counts (tells lay top sound m k) a p is
+  step_waste (Discard l o x d g b e) h = discard_waste lay (known_at lay m) top m.world n.world l o k.counts (tells lay top sound m k) x p is
+  step_waste (Write l o q content x c g b e) h = write_waste lay (known_at lay m) top m.world n.world l o q apart k.counts (tells lay top sound m k) x p is
   step_waste (WriteAgain l q i x w g c e) h = world_same lay m.world n.world p w
-  step_waste (Fold l o q i x c e b z) h = write_waste lay (known_at lay m) top m.world n.world l o q apart k.engine (tells lay top sound m k) x p is
+  step_waste (Fold l o q i x c e b z) h = write_waste lay (known_at lay m) top m.world n.world l o q apart k.counts (tells lay top sound m k) x p is
   step_waste (DiscardAgain l i w g c e) h = world_same lay m.world n.world p w
-  step_waste (FoldZero l o i y x d e b z) h = discard_waste lay (known_at lay m) top m.world n.world l o k.engine (tells lay top sound m k) x p is
+  step_waste (FoldZero l o i y x d e b z) h = discard_waste lay (known_at lay m) top m.world n.world l o k.counts (tells lay top sound m k) x p is
   step_waste (DropData q x e c z) h =
-      let count = dropped.count lay top m.world n.world q apart k.engine x p is in
-      let names = dropped.names lay top m.world n.world q apart k.engine x p in
+      let count = dropped.count lay top m.world n.world q apart k.counts x p is in
+      let names = dropped.names lay top m.world n.world q apart k.counts x p in
       let queue : queued n.world.queue p ≡ queued m.world.queue p = ap (λ rs. queued rs p) x.queue in
       omega arith
   step_waste (Correct q x d e b z) h = absurd h

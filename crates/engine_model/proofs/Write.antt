@@ -139,7 +139,6 @@ module _ (lay : Layout) (top : ℕ) (w v : World) (page : ℕ) (old : CountsInva
       | inr r ↦ m.dirty_new b (old.marks_and_edges.barred_after a b r) (λ e. no_edge a b e (inr r))
     ];
     acyclic = acyclic_fewer w.live v.live (λ a b h. (m.live_old a b h).0) old.marks_and_edges.acyclic;
-    kinds = λ a b h. old.marks_and_edges.kinds a b (elim h [ inl l ↦ inl (m.live_old a b l).0 | inr r ↦ (m.barred_old a b r).0 ]);
     settled = λ a c is d h q. let s = m.settled_other a d h in elim (t.possible a c q) [
       | inl q ↦ old.marks_and_edges.settled a c is s.1 s.2 q ∙ sym (t.cached a)
       | inr q ↦ absurd (s.0 q.0)
@@ -244,6 +243,7 @@ module _ (lay : Layout) (top : ℕ) (w v : World) (page : ℕ) (old : CountsInva
   pub write_keeps : CountsInvariant lay top v
   write_keeps = record {
     marks_and_edges = marks_and_edges;
+    edge_kinds = λ a b h. old.edge_kinds a b (elim h [ inl l ↦ inl (m.live_old a b l).0 | inr r ↦ (m.barred_old a b r).0 ]);
     count_balance = count_balance;
     counts_cover_names = counts_cover_names;
     counts_cover_prints = counts_cover_prints;

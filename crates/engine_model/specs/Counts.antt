@@ -33,9 +33,12 @@ pub record MarksAndEdges (lay : Layout) (w : World) : Type 0 where
   pub live_after : (a b : ℕ) → w.live a b ≡ true → w.dirty b ≡ true
   pub barred_before : (a b : ℕ) → w.barred a b ≡ true → w.hung a ≡ true
   pub barred_after : (a b : ℕ) → w.barred a b ≡ true → w.dirty b ≡ true
-  pub kinds : (a b : ℕ) → HasEdge w a b → EdgeKind lay a b
   pub settled : (page : ℕ) (c : List ℕ) → IsTable lay page → w.dirty page ≡ false → w.hung page ≡ false → Possible w page c → c ≡ w.cached page
   pub clean : (page : ℕ) → IsTable lay page → w.dirty page ≡ false → w.newest page ≡ w.cached page
+
+-- an edge leads from a data or count page to a map or print page, or from one of these to a count page: so none leads to a data page
+abbrev pub EdgeKinds : Layout → World → Type 0
+EdgeKinds lay w = (a b : ℕ) → HasEdge w a b → EdgeKind lay a b
 
 -- the cached count is its names and its queued releases and a waste, and is at most the limit
 pub record Balanced (lay : Layout) (w : World) (top p : ℕ) : Type 0 where
@@ -72,6 +75,7 @@ pub record LostPrint (lay : Layout) (w : World) (p : ℕ) : Type 0 where
 -- what is kept of counts, names, prints, releases and edges
 pub record CountsInvariant (lay : Layout) (top : ℕ) (w : World) : Type 0 where
   pub marks_and_edges : MarksAndEdges lay w
+  pub edge_kinds : EdgeKinds lay w
   pub count_balance : (p : ℕ) → IsData lay p → Balanced lay w top p
   pub counts_cover_names : (p : ℕ) → IsData lay p → CoversNames lay w p
   pub counts_cover_prints : (p : ℕ) → IsData lay p → CoversPrints lay w p

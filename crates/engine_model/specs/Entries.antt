@@ -73,6 +73,7 @@ NoEdge w a b = (w.live a b ≡ false) × (w.barred a b ≡ false)
 pub record Apart (lay : Layout) : Type 0 where
   pub table_data : (page p : ℕ) → IsTable lay page → IsData lay p → page ≢ lay.data_page p
   pub data_data : (q p : ℕ) → IsData lay q → IsData lay p → q ≢ p → lay.data_page q ≢ lay.data_page p
+  pub map_count : (l p : ℕ) → l < lay.blocks → IsData lay p → lay.map_page l ≢ lay.count_page p
   pub map_print : (l p : ℕ) → l < lay.blocks → IsData lay p → lay.map_page l ≢ lay.print_page p
   pub count_print : (q p : ℕ) → IsData lay q → IsData lay p → lay.count_page q ≢ lay.print_page p
   pub first_table : (page : ℕ) → IsTable lay page → page ≢ 0

@@ -41,7 +41,7 @@ ToldZero lay p m n =
 
 -- all that is kept
 pub record EngineInvariant (lay : Layout) (top : ℕ) (sound : Bool) (m : Moment) : Type 0 where
-  pub engine : CountsInvariant lay top m.world
+  pub counts : CountsInvariant lay top m.world
   pub contents : ContentsInvariant lay sound m.array m.world
   pub births : (slot : Slot) → IsSlot lay slot → BirthKnown lay m.world m.calls slot
   pub pool_knows_counts : (p : ℕ) → IsData lay p → PoolKnows lay m.world (m.pool p) p

@@ -7,6 +7,6 @@ returns c = record {
   start = session_start;
   kept = λ lay top sound apart m ns k r. run_keeps lay top sound apart m ns k r;
   images = fits;
-  acyclic = λ lay top sound m k. k.engine.marks_and_edges.acyclic;
+  acyclic = λ lay top sound m k. k.counts.marks_and_edges.acyclic;
   known = tells;
 }
