@@ -103,8 +103,8 @@ module _ (lay : Layout) (top : ℕ) (w : World) (rest : AtRest w) where
       clean = λ y. sym (rest.cached _);
     };
     named_data_fixed = λ p d. record {
-      named = λ l lt n. record { one = rest.one _; clean = rest.dirty _ };
-      printed = λ print n. record { one = rest.one _; clean = rest.dirty _ };
+      named = λ l lt n. record { one = rest.one _; clean = rest.dirty _; fixed = rest.hung _ };
+      printed = λ print n. record { one = rest.one _; clean = rest.dirty _; fixed = rest.hung _ };
     };
     reads = λ l lt. record {
       unmapped = λ n. (fit.reads l lt).unmapped (may_name 0 l n);

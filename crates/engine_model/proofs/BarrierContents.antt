@@ -20,7 +20,7 @@ module _ (lay : Layout) (sound : Bool) (array : ℕ → List (List ℕ)) (w v : 
   may_print p print n = record { content = n.content; possible = inl (b.possible _ n.content n.possible); has = n.has }
 
   stands : (p : ℕ) → Stands lay w p → Stands lay v p
-  stands p s = record { one = λ c q. b.possible _ c q ∙ sym (b.newest _); clean = b.dirty _ ∙ s.clean }
+  stands p s = record { one = λ c q. b.possible _ c q ∙ sym (b.newest _); clean = b.dirty _ ∙ s.clean; fixed = b.hung _ }
 
   fresh_data_first : (p : ℕ) → IsData lay p → DataOrdered lay v p
   fresh_data_first p d = record {

@@ -170,7 +170,7 @@ module _ (lay : Layout) (top : ℕ) (w v : World) (p : ℕ) (apart : Apart lay) 
   still_clean a c = elim (cases_eq a (lay.data_page p)) [ inl e ↦ ap v.dirty e ∙ x.dirty_gone | inr ne ↦ x.dirty a ne ∙ c ]
 
   stands : (q : ℕ) → Stands lay w q → Stands lay v q
-  stands q s = record { one = λ c z. s.one c (x.possible _ c z) ∙ sym (x.newest _); clean = still_clean _ s.clean }
+  stands q s = record { one = λ c z. s.one c (x.possible _ c z) ∙ sym (x.newest _); clean = still_clean _ s.clean; fixed = x.hung _ ∙ s.fixed }
 
   module _ (sound : Bool) (array : ℕ → List (List ℕ)) (was : ContentsInvariant lay sound array w) where
     ordered : (q : ℕ) → IsData lay q → DataOrdered lay v q

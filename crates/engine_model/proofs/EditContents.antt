@@ -51,6 +51,7 @@ module _ (lay : Layout) (top : ℕ) (sound : Bool) (before after : ℕ → List 
   stands : (p : ℕ) → IsData lay p → (Free lay w p → ⊥) → Stands lay w p → Stands lay v p
   stands p d taken s = record {
     one = λ c q. s.one c (e.rest.possible _ c q) ∙ sym (e.rest.newest _);
+    fixed = e.rest.hung _ ∙ s.fixed;
     clean = false_from_ne_true _ (λ y. elim (e.dirty_fresh p d y) [ inl was ↦ true≢false (sym was ∙ s.clean) | inr f ↦ taken f ]);
   }
 

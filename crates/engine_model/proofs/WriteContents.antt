@@ -56,6 +56,7 @@ module _ (lay : Layout) (top : ℕ) (sound : Bool) (array : ℕ → List (List �
       | inr q ↦ absurd (not_here _ s.clean q.0)
     ];
     clean = still_clean _ s.clean;
+    fixed = false_from_ne_true _ (λ y. elim (m.hung_old _ y) [ inl h ↦ true≢false (sym h ∙ s.fixed) | inr e ↦ not_here _ s.clean e ]);
   }
 
   -- what the written page names in the cache is settled
@@ -63,6 +64,7 @@ module _ (lay : Layout) (top : ℕ) (sound : Bool) (array : ℕ → List (List �
   settled_here p d pos nd nh = record {
     one = λ c q. (old.fresh_data_first p d).settled c pos (false_from_ne_true _ nd) (false_from_ne_true _ nh) q;
     clean = false_from_ne_true _ nd;
+    fixed = false_from_ne_true _ nh;
   }
 
   named_here : (p l : ℕ) → l < lay.blocks → IsData lay p → lay.map_page l ≡ page → cached_name lay w l ≡ p → Stands lay w p

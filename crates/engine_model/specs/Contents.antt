@@ -19,10 +19,11 @@ pub record DataOrdered (lay : Layout) (w : World) (p : ℕ) : Type 0 where
   pub settled : (c : List ℕ) → 0 < cached_count lay w p → w.dirty (lay.data_page p) ≡ false → w.hung (lay.data_page p) ≡ false → Possible w (lay.data_page p) c → c ≡ w.newest (lay.data_page p)
   pub clean : w.dirty (lay.data_page p) ≡ false → w.newest (lay.data_page p) ≡ w.cached (lay.data_page p)
 
--- p's data page stands as it is: it has one possible content, and no other is to be written
+-- p's data page stands as it is: it has one possible content, and is no node
 pub record Stands (lay : Layout) (w : World) (p : ℕ) : Type 0 where
   pub one : (c : List ℕ) → Possible w (lay.data_page p) c → c ≡ w.newest (lay.data_page p)
   pub clean : w.dirty (lay.data_page p) ≡ false
+  pub fixed : w.hung (lay.data_page p) ≡ false
 
 -- a data page that a possible map or print page names stands as it is
 pub record NamedStands (lay : Layout) (w : World) (p : ℕ) : Type 0 where
