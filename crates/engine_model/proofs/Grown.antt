@@ -1,13 +1,13 @@
--- A touched page, a raised count and an added edge keep the counts.
+-- A touched page, a raised count and an added edge are edits that bring what they are to bring.
 use Rattle.std.proofs.Common.{◌≡◌, inl, ℕ, arith, sym, ap, ◌∙◌}
 use Rattle.engine_model.specs.World.{Layout, World, queued}
 use Rattle.engine_model.specs.Counts.{CountsInvariant}
-use Rattle.engine_model.specs.Edits.{Grown}
+use Rattle.engine_model.specs.Edits.{Edits, Grown}
 use Rattle.engine_model.proofs.Edits.{edits_keep}
 use Rattle.engine_model.proofs.Views.{names_by}
 
-pub grown_keeps : (lay : Layout) (top : ℕ) (w v : World) → CountsInvariant lay top w → Grown lay top w v → CountsInvariant lay top v
-grown_keeps lay top w v old x = edits_keep lay top w v old (record {
+pub grown_edits : (lay : Layout) (top : ℕ) (w v : World) → CountsInvariant lay top w → Grown lay top w v → Edits lay top w v
+grown_edits lay top w v old x = record {
   newest = x.rest.newest;
   possible = x.rest.possible;
   cached_clean = x.rest.cached_clean;
@@ -36,4 +36,7 @@ grown_keeps lay top w v old x = edits_keep lay top w v old (record {
   zero_dirty = λ l p lt z. x.rest.dirty_kept _ (old.lost_name_owes_release.dirty l p lt (rw x.queue at z));
   one_hung = λ l p lt z. x.rest.hung _ ∙ old.lost_name_owes_release.hung l p lt (rw x.queue at z);
   queue_in_range = λ l p stage z. old.lost_name_owes_release.in_range l p stage (rw x.queue at z);
-})
+}
+
+pub grown_keeps : (lay : Layout) (top : ℕ) (w v : World) → CountsInvariant lay top w → Grown lay top w v → CountsInvariant lay top v
+grown_keeps lay top w v old x = edits_keep lay top w v old (grown_edits lay top w v old x)

@@ -40,3 +40,5 @@ pub mod Waste
 pub mod BirthWords
 pub mod Tight
 pub mod Grown
+pub mod Whole
+pub mod Quiet

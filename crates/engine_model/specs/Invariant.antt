@@ -1,5 +1,5 @@
 -- The engine invariant whole: a state, the contents that each block may read, and what birth_marks and the pool were told.
-use Rattle.std.specs.Prelude.{Bool, List, ℕ, ◌<◌, ◌≡◌, ◌⊎◌}
+use Rattle.std.specs.Prelude.{Bool, true, List, ℕ, ◌<◌, ◌≡◌, ◌⊎◌}
 use Rattle.engine_model.specs.World.{Agree, Layout, World}
 use Rattle.engine_model.specs.Entries.{IsData, cached_count}
 use Rattle.engine_model.specs.Counts.{CountsInvariant}
@@ -38,6 +38,13 @@ abbrev pub ToldZero : Layout → ℕ → Moment → Moment → Type 0
 ToldZero lay p m n =
     ((cached_count lay n.world p ≡ 0) × Agree n.pool (after_zeroed p m.pool))
     ⊎ (((0 < cached_count lay n.world p) ⊎ (cached_count lay n.world p ≡ cached_count lay m.world p)) × Agree n.pool m.pool)
+
+-- The pool is told of whatever an edit changes: it knows for each page whether the cached count is 0, and it is told nothing of the device.
+pub record ToldPool (lay : Layout) (m n : Moment) : Type 0 where
+  pub zero : (q : ℕ) → IsData lay q → (n.pool q).zero ≡ true → cached_count lay n.world q ≡ 0
+  pub above : (q : ℕ) → IsData lay q → cached_count lay n.world q ≡ 0 → (n.pool q).zero ≡ true
+  pub tried : (q : ℕ) → IsData lay q → (n.pool q).tried ≡ (m.pool q).tried
+  pub newest : (q : ℕ) → IsData lay q → (n.pool q).newest ≡ (m.pool q).newest
 
 -- all that is kept
 pub record EngineInvariant (lay : Layout) (top : ℕ) (sound : Bool) (m : Moment) : Type 0 where

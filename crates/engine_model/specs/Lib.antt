@@ -10,6 +10,7 @@ pub mod Invariant
 pub mod DeviceSteps
 pub mod Edits
 pub mod Commands
+pub mod SmallSteps
 pub mod Releases
 pub mod Drops
 pub mod Corrections
