@@ -42,3 +42,6 @@ pub mod Tight
 pub mod Grown
 pub mod Whole
 pub mod Quiet
+pub mod SetPrints
+pub mod SetNames
+pub mod Lowered

@@ -16,36 +16,36 @@ use Rattle.engine_model.proofs.Edits.{edits_keep}
 
 -- what a dropped name owes, and how the counts of names and releases move
 module _ (lay : Layout) (known : Known) (top : ℕ) (w v : World) (l o : ℕ) (old : CountsInvariant lay top w) (tells : Tells lay w known) (rest : CacheOnly lay w v) (r : Released lay known w v l o) where
-  abbrev release : Release
+  abbrev pub release : Release
   release = record { block = l; page = o; stage = cond (known.unborn_name l o) 3 0 }
 
-  names_other : (p : ℕ) → cached_name lay w l ≢ p → cached_name lay v l ≢ p → cached_names lay v p ≡ cached_names lay w p
+  pub names_other : (p : ℕ) → cached_name lay w l ≢ p → cached_name lay v l ≢ p → cached_names lay v p ≡ cached_names lay w p
   names_other p nw nv = count_ext lay.blocks (λ k. eqb (cached_name lay v k) p) (λ k. eqb (cached_name lay w k) p) (λ k lt. elim (cases_eq k l) [
     | inl e ↦ ne_eqb _ p (λ q. nv (ap (cached_name lay v) (sym e) ∙ q)) ∙ sym (ne_eqb _ p (λ q. nw (ap (cached_name lay w) (sym e) ∙ q)))
     | inr ne ↦ ap (λ n. eqb n p) (r.other_names k lt ne)
   ])
 
-  names_gained : (p : ℕ) → cached_name lay w l ≢ p → cached_name lay v l ≡ p → cached_names lay v p ≡ cached_names lay w p + 1
+  pub names_gained : (p : ℕ) → cached_name lay w l ≢ p → cached_name lay v l ≡ p → cached_names lay v p ≡ cached_names lay w p + 1
   names_gained p nw is = count_gain lay.blocks l (λ k. eqb (cached_name lay w k) p) (λ k. eqb (cached_name lay v k) p) r.in_range
       (ne_eqb _ p nw) (eq-eqb _ p is) (λ k lt ne. ap (λ n. eqb n p) (r.other_names k lt ne))
 
-  names_lost : (p : ℕ) → cached_name lay w l ≡ p → cached_name lay v l ≢ p → cached_names lay w p ≡ cached_names lay v p + 1
+  pub names_lost : (p : ℕ) → cached_name lay w l ≡ p → cached_name lay v l ≢ p → cached_names lay w p ≡ cached_names lay v p + 1
   names_lost p is nv = count_gain lay.blocks l (λ k. eqb (cached_name lay v k) p) (λ k. eqb (cached_name lay w k) p) r.in_range
       (ne_eqb _ p nv) (eq-eqb _ p is) (λ k lt ne. ap (λ n. eqb n p) (sym (r.other_names k lt ne)))
 
-  queue_here : 0 < o → queued v.queue o ≡ queued w.queue o + 1
+  pub queue_here : 0 < o → queued v.queue o ≡ queued w.queue o + 1
   queue_here pos = elim r.pushed [
     | inl z ↦ absurd (omega (arith, z))
     | inr q ↦ ap (λ rs. queued rs o) q.1 ∙ queued_push w.queue release o ∙ ap (λ b. queued w.queue o + cond b 1 0) (eq-eqb o o refl)
   ]
 
-  queue_other : (p : ℕ) → o ≢ p → queued v.queue p ≡ queued w.queue p
+  pub queue_other : (p : ℕ) → o ≢ p → queued v.queue p ≡ queued w.queue p
   queue_other p ne = elim r.pushed [
     | inl z ↦ ap (λ rs. queued rs p) z.1
     | inr q ↦ ap (λ rs. queued rs p) q.1 ∙ queued_push w.queue release p ∙ ap (λ b. queued w.queue p + cond b 1 0) (ne_eqb o p ne) ∙ omega arith
   ]
 
-  still : (k p stage : ℕ) → Queued w.queue k p stage → Queued v.queue k p stage
+  pub still : (k p stage : ℕ) → Queued w.queue k p stage → Queued v.queue k p stage
   still k p stage q = elim r.pushed [ inl z ↦ rw z.1 q | inr n ↦ rw n.1 (push_old w.queue release k p stage q) ]
 
   from : (k p stage : ℕ) → Queued v.queue k p stage → Queued w.queue k p stage ⊎ ((l ≡ k) × (o ≡ p) × (cond (known.unborn_name l o) 3 0 ≡ stage))
@@ -64,13 +64,13 @@ module _ (lay : Layout) (known : Known) (top : ℕ) (w v : World) (l o : ℕ) (o
         ]
       ]
 
-  name_lost : (k p : ℕ) → k < lay.blocks → IsData lay p → MayName lay w p k → cached_name lay w k ≡ p → (cached_name lay v k ≡ p) ⊎ Queued v.queue k p 0
+  pub name_lost : (k p : ℕ) → k < lay.blocks → IsData lay p → MayName lay w p k → cached_name lay w k ≡ p → (cached_name lay v k ≡ p) ⊎ Queued v.queue k p 0
   name_lost k p lt d may is = elim (cases_eq k l) [
     | inr ne ↦ inl (r.other_names k lt ne ∙ is)
     | inl e ↦ inr (subst (λ x. Queued v.queue x p 0) (sym e) (owed_here p d.0 (subst (λ x. MayName lay w p x) e may) (ap (cached_name lay w) (sym e) ∙ is)))
   ]
 
-  zero_dirty : (k p : ℕ) → k < lay.blocks → Queued v.queue k p 0 → v.dirty (lay.map_page k) ≡ true
+  pub zero_dirty : (k p : ℕ) → k < lay.blocks → Queued v.queue k p 0 → v.dirty (lay.map_page k) ≡ true
   zero_dirty k p lt q = elim (from k p 0 q) [
     | inl was ↦ rest.dirty_kept _ (old.lost_name_owes_release.dirty k p lt was)
     | inr is ↦ ap v.dirty (ap lay.map_page (sym is.0)) ∙ r.map_dirty
@@ -79,7 +79,7 @@ module _ (lay : Layout) (known : Known) (top : ℕ) (w v : World) (l o : ℕ) (o
   not_one : (b : Bool) → cond {A = ℕ} b 3 0 ≡ 1 → ⊥
   not_one b e = elim (cases_Bool b) [ inl is ↦ omega (arith, rw is at e) | inr is ↦ omega (arith, rw is at e) ]
 
-  queue_in_range : (k p stage : ℕ) → Queued v.queue k p stage → (k < lay.blocks) × IsData lay p
+  pub queue_in_range : (k p stage : ℕ) → Queued v.queue k p stage → (k < lay.blocks) × IsData lay p
   queue_in_range k p stage q = elim r.pushed [
     | inl z ↦ old.lost_name_owes_release.in_range k p stage (rw z.1 at q)
     | inr n ↦ elim (from k p stage q) [
@@ -88,7 +88,7 @@ module _ (lay : Layout) (known : Known) (top : ℕ) (w v : World) (l o : ℕ) (o
     ]
   ]
 
-  one_hung : (k p : ℕ) → k < lay.blocks → Queued v.queue k p 1 → v.hung (lay.map_page k) ≡ true
+  pub one_hung : (k p : ℕ) → k < lay.blocks → Queued v.queue k p 1 → v.hung (lay.map_page k) ≡ true
   one_hung k p lt q = elim (from k p 1 q) [
     | inl was ↦ rest.hung _ ∙ old.lost_name_owes_release.hung k p lt was
     | inr is ↦ absurd (not_one (known.unborn_name l o) is.2)
