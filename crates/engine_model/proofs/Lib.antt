@@ -43,5 +43,7 @@ pub mod Grown
 pub mod Whole
 pub mod Quiet
 pub mod SetPrints
+pub mod DeviceMoves
+pub mod SmallSteps
 pub mod SetNames
 pub mod Lowered

@@ -1,5 +1,5 @@
 -- The steps of the device, as relations between the state before and the state after: each field says one fact of one kind.
-use Rattle.std.specs.Prelude.{List, [], cond, eqb, false, map, not, true, ℕ, ◌&&◌, ◌||◌, ◌≡◌, ◌≢◌, ◌⊎◌}
+use Rattle.std.specs.Prelude.{◌++◌, ◌∷◌, List, [], cond, eqb, false, map, not, true, ℕ, ◌&&◌, ◌||◌, ◌≡◌, ◌≢◌, ◌⊎◌}
 use Rattle.engine_model.specs.World.{Layout, Possible, Release, World}
 
 -- nothing is pending and nothing is edited: a device that was just mounted, or flushed
@@ -67,3 +67,30 @@ pub record Same (w v : World) : Type 0 where
   pub live : (a b : ℕ) → v.live a b ≡ w.live a b
   pub barred : (a b : ℕ) → v.barred a b ≡ w.barred a b
   pub queue : v.queue ≡ w.queue
+
+-- The same as functions of the state: a barrier that is done,
+abbrev pub barrier_made : World → World
+barrier_made w = record w { older = λ page. w.newest page ∷ []; hung = λ a. false; barred = λ a b. false; queue = map fixed_release w.queue }
+
+-- a write that failed and was taken,
+abbrev pub page_taken : ℕ → World → World
+page_taken page w = record w {
+  newest = λ a. cond (eqb a page) (w.cached page) (w.newest a);
+  older = λ a. w.older a ++ cond (eqb a page) (w.cached page ∷ []) [];
+}
+
+-- and one that is done
+abbrev pub page_written : Layout → ℕ → World → World
+page_written lay page w = record (page_taken page w) {
+  dirty = λ a. w.dirty a && not (eqb a page);
+  hung = λ a. w.hung a || eqb a page;
+  live = λ a b. w.live a b && not (eqb a page);
+  barred = λ a b. w.barred a b || (w.live a b && eqb a page);
+  queue = map (written_release lay page) w.queue;
+}
+
+-- the page is dirty, and no edge leads to it
+pub record IsReady (w : World) (page : ℕ) : Type 0 where
+  pub dirty : w.dirty page ≡ true
+  pub no_live : (a : ℕ) → w.live a page ≡ false
+  pub no_barred : (a : ℕ) → w.barred a page ≡ false

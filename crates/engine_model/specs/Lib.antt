@@ -16,6 +16,7 @@ pub mod Drops
 pub mod Corrections
 pub mod Images
 pub mod Schedule
+pub mod SmallRuns
 pub mod Pass
 pub mod Scan
 pub mod Tight

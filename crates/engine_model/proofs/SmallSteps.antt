@@ -1,0 +1,30 @@
+-- Each small step keeps the invariant, and so does a run of steps and small steps.
+use Rattle.std.proofs.Common.{◌≡◌, ◌⊎◌, inl, inr, ℕ, Bool, sym, subst, List, [], ◌∷◌}
+use Rattle.engine_model.specs.World.{Layout}
+use Rattle.engine_model.specs.Entries.{Apart}
+use Rattle.engine_model.specs.Invariant.{EngineInvariant, Moment, ToldTake, ToldZero}
+use Rattle.engine_model.specs.Schedule.{Each}
+use Rattle.engine_model.specs.SmallRuns.{ClearPrint, Lower, Order, OrderByBarrier, Place, Raise, SetName, SetPrint, SmallRun, SmallStep, Touch}
+use Rattle.engine_model.proofs.Lowered.{lowered_keeps}
+use Rattle.engine_model.proofs.Quiet.{barred_keeps, ordered_keeps, placed_keeps, raised_keeps, touched_keeps}
+use Rattle.engine_model.proofs.Schedule.{step_keeps}
+use Rattle.engine_model.proofs.SetNames.{named_keeps}
+use Rattle.engine_model.proofs.SetPrints.{cleared_keeps, printed_keeps}
+
+module _ (lay : Layout) (top : ℕ) (sound : Bool) (apart : Apart lay) where
+  pub small_step_keeps : (m n : Moment) → EngineInvariant lay top sound m → SmallStep lay top m n → EngineInvariant lay top sound n
+  small_step_keeps m n k (Touch page t e) = rw e (touched_keeps lay top sound apart m k page t)
+  small_step_keeps m n k (Place p content d free e) = rw e (placed_keeps lay top sound apart m k p content d free)
+  small_step_keeps m n k (Order before after kind first later no_cycle e) = rw e (ordered_keeps lay top sound apart m k before after kind later first no_cycle)
+  small_step_keeps m n k (OrderByBarrier before after kind first later e) = rw e (barred_keeps lay top sound apart m k before after kind later first)
+  small_step_keeps m n k (Raise p c pool can e told) = rw e (raised_keeps lay top sound apart m k p c can pool (subst (λ x. ToldTake lay p m x) e told))
+  small_step_keeps m n k (SetPrint p c print can e) = rw e (printed_keeps lay top sound apart m k p c print can)
+  small_step_keeps m n k (SetName l o p c array can gain e) = rw e (named_keeps lay top sound apart m k l o p c can array gain)
+  small_step_keeps m n k (ClearPrint p c print can e) = rw e (cleared_keeps lay top sound apart m k p c print can)
+  small_step_keeps m n k (Lower r before after c count pool can e told) = rw e (lowered_keeps lay top sound apart m k r before after c count can pool (subst (λ x. ToldZero lay r.page m x) e told))
+
+  pub small_run_keeps : (m : Moment) (ns : List Moment) → EngineInvariant lay top sound m → SmallRun lay top m ns → Each (EngineInvariant lay top sound) ns
+  small_run_keeps m [] k r = tt
+  small_run_keeps m (n ∷ ns) k r =
+      let next : EngineInvariant lay top sound n = elim r.0 [ inl s ↦ step_keeps lay top sound apart m n k s | inr s ↦ small_step_keeps m n k s ] in
+      (next, small_run_keeps n ns next r.1)
