@@ -1,5 +1,5 @@
 -- The last of a list of contents.
-use Rattle.std.proofs.Common.{inl, inr, ℕ, List, [], ◌∷◌, ◌++◌, refl}
+use Rattle.std.proofs.Common.{◌≡◌, inl, inr, ℕ, List, [], ◌∷◌, ◌++◌, refl, sym, ◌∙◌}
 use Rattle.engine_model.specs.World.{Has}
 use Rattle.engine_model.specs.Contents.{Last}
 
@@ -17,3 +17,9 @@ pub last_push : (xs : List (List ℕ)) (d : List ℕ) → Last (xs ++ d ∷ []) 
 last_push [] d = refl
 last_push (x ∷ []) d = refl
 last_push (x ∷ (y ∷ ys)) d = last_push (y ∷ ys) d
+
+-- a list has one last member
+pub last_once : (xs : List (List ℕ)) (c d : List ℕ) → Last xs c → Last xs d → c ≡ d
+last_once [] c d h k = absurd h
+last_once (x ∷ []) c d h k = h ∙ sym k
+last_once (x ∷ (y ∷ ys)) c d h k = last_once (y ∷ ys) c d h k

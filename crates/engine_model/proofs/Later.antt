@@ -24,10 +24,10 @@ module _ (lay : Layout) (top : ℕ) (sound : Bool) (format : Format lay top) whe
       → (lay.name_in (image (lay.map_page l)) l ≡ 0) ⊎ IsData lay (lay.name_in (image (lay.map_page l)) l)
   name_is image array fit l lt = format.names l _ lt (fit.well_formed _ (inl (l, lt, refl)))
 
-  block_zero : (image : ℕ → List ℕ) (l : ℕ) → lay.name_in (image (lay.map_page l)) l ≡ 0 → block_in lay image l ≡ lay.zero_block
+  pub block_zero : (image : ℕ → List ℕ) (l : ℕ) → lay.name_in (image (lay.map_page l)) l ≡ 0 → block_in lay image l ≡ lay.zero_block
   block_zero image l z = ap (λ b. cond b lay.zero_block (image (lay.data_page (lay.name_in (image (lay.map_page l)) l)))) (eq-eqb _ 0 z)
 
-  block_named : (image : ℕ → List ℕ) (l p : ℕ) → IsData lay p → lay.name_in (image (lay.map_page l)) l ≡ p → block_in lay image l ≡ image (lay.data_page p)
+  pub block_named : (image : ℕ → List ℕ) (l p : ℕ) → IsData lay p → lay.name_in (image (lay.map_page l)) l ≡ p → block_in lay image l ≡ image (lay.data_page p)
   block_named image l p d n = ap (λ b. cond b lay.zero_block (image (lay.data_page (lay.name_in (image (lay.map_page l)) l)))) (ne_eqb _ 0 (λ z. omega (arith, d, n, z)))
       ∙ ap (λ q. image (lay.data_page q)) n
 

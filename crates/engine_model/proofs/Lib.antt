@@ -45,5 +45,6 @@ pub mod Quiet
 pub mod SetPrints
 pub mod DeviceMoves
 pub mod SmallSteps
+pub mod Flushes
 pub mod SetNames
 pub mod Lowered

@@ -1,5 +1,5 @@
 -- The layout of a device's pages: where each entry stands, and how it is read from the bytes of its page.
-use Rattle.std.specs.Prelude.{Bool, List, None, Option, Some, cond, drop, eqb, get_or, set, take, ℕ, ◌%◌, ◌*◌, ◌+◌, ◌-◌, ◌/◌}
+use Rattle.std.specs.Prelude.{◌++◌, ◌∷◌, length, replicate, Bool, List, None, Option, Some, cond, drop, eqb, get_or, set, take, ℕ, ◌%◌, ◌*◌, ◌+◌, ◌-◌, ◌/◌}
 use Rattle.engine_model.specs.World.{Layout}
 
 abbrev pub number_at : List ℕ → ℕ → ℕ
@@ -8,6 +8,15 @@ number_at c i = get_or c i 0 + 256 * get_or c (i + 1) 0 + 65536 * get_or c (i + 
 -- c with n in the four bytes at i
 abbrev pub with_number : List ℕ → ℕ → ℕ → List ℕ
 with_number c i n = set (set (set (set c i (n % 256)) (i + 1) (n / 256 % 256)) (i + 2) (n / 65536 % 256)) (i + 3) (n / 16777216)
+
+-- c with these bytes from i on
+abbrev pub with_bytes : List ℕ → ℕ → List ℕ → List ℕ
+with_bytes c i bytes = take i c ++ (bytes ++ drop (i + length bytes) c)
+
+-- the 24 bytes of a print's entry: a flag and three zeros, and then the print
+abbrev pub print_entry : Option (List ℕ) → List ℕ
+print_entry None = replicate 24 0
+print_entry (Some print) = 1 ∷ (0 ∷ (0 ∷ (0 ∷ print)))
 
 abbrev pub map_pages : ℕ → ℕ
 map_pages blocks = (blocks + 1023) / 1024

@@ -1,7 +1,7 @@
 //! The engine's laws over plain data: each kind of step keeps one invariant, and every image that a crash leaves is then fit to be mounted.
 #![tactic(auto)]
 
-ghost use Rattle.std.specs.Prelude.{◌≡◌, ◌≢◌, ◌⊎◌, ◌↔◌, ◌<◌, ◌≤◌, ◌*◌, ◌%◌, ◌&&◌, ◌||◌, not, cond, eqb, ◌++◌, ◌∷◌, [], ℕ, List, Bool, false, get_or, length, true};
+ghost use Rattle.std.specs.Prelude.{◌+◌, ◌-◌, ◌/◌, Option, ◌≡◌, ◌≢◌, ◌⊎◌, ◌↔◌, ◌<◌, ◌≤◌, ◌*◌, ◌%◌, ◌&&◌, ◌||◌, not, cond, eqb, ◌++◌, ◌∷◌, [], ℕ, List, Bool, false, get_or, length, true};
 ghost use Rattle.engine_model.specs.World.{Agree, AtMost, Has, Layout, Possible, Queued, Release, World, count_below};
 ghost use Rattle.engine_model.specs.Counts.{Covered, CountsInvariant};
 ghost use Rattle.engine_model.specs.Entries.{IsData, IsTable, MayName, MayPrint, cached_count, cached_name};
@@ -29,7 +29,8 @@ ghost use Rattle.engine_model.specs.Tight.{ChoosesWell, HasRoom, IsTight};
 ghost use Rattle.engine_model.specs.VersionSwitch.{SwitchImage, SwitchRun, SwitchStart, with_finger};
 ghost use Rattle.engine_model.specs.Paths.{IsAcyclic, Closes};
 ghost use Rattle.engine_model.specs.EdgeList.{Edge, after_add, after_barrier, after_drop, after_wrote, barred_in, live_in};
-ghost use Rattle.engine_model.specs.Bytes.{layout_of, with_number};
+ghost use Rattle.engine_model.specs.Bytes.{layout_of, print_entry, with_bytes, with_number};
+ghost use Rattle.engine_model.specs.SmallSteps.{SetsCount, SetsName, SetsPrint};
 ghost use Rattle.engine_model.specs.Examples.{applied, asked, dropped_release, empty, empty_array, printed, waiting, written, written_array};
 ghost use Rattle.engine_model.specs.Session.{discarded, dropped, lowered, mounted, wrote};
 ghost use Rattle.engine_model.specs.Counterexamples.{WeakContents, after_overwrite, discarded_array, overwritten, small, stale, stale_array, stale_flushed, torn_image};
@@ -251,13 +252,19 @@ pub fn graph_kept()
         → IsAcyclic live → ((a b x y : ℕ) → extra a b ≡ true → extra x y ≡ true → Closes live a y → ⊥) → IsAcyclic more }
 {}
 
-/// The layout over bytes: its pages are apart, and a name that is put changes one entry.
+/// The layout over bytes: its pages are apart, and what is put in the bytes of an entry changes that entry alone.
 pub fn bytes_kept()
     ensures apart { (blocks pages : ℕ) (well_formed : ℕ → List ℕ → Bool) (zero : List ℕ) (finger : List ℕ → List ℕ) → Apart (layout_of blocks pages well_formed zero finger) }
-    ensures put { (blocks pages : ℕ) (well_formed : ℕ → List ℕ → Bool) (zero : List ℕ) (finger : List ℕ → List ℕ) (c : List ℕ) (l p : ℕ) → length c ≡ 4096
-        → ((layout_of blocks pages well_formed zero finger).name_in (with_number c (4 * (l % 1024)) p) l ≡ p)
-        × ((k : ℕ) → (layout_of blocks pages well_formed zero finger).map_page k ≡ (layout_of blocks pages well_formed zero finger).map_page l → k ≢ l
-        → (layout_of blocks pages well_formed zero finger).name_in (with_number c (4 * (l % 1024)) p) k ≡ (layout_of blocks pages well_formed zero finger).name_in c k) }
+    ensures name { (blocks pages : ℕ) (well_formed : ℕ → List ℕ → Bool) (zero : List ℕ) (finger : List ℕ → List ℕ) (c : List ℕ) → length c ≡ 4096 → (l p : ℕ)
+        → well_formed (1 + l / 1024) (with_number c (4 * (l % 1024)) p) ≡ true → SetsName (layout_of blocks pages well_formed zero finger) c (with_number c (4 * (l % 1024)) p) l p }
+    ensures count { (blocks pages : ℕ) (well_formed : ℕ → List ℕ → Bool) (zero : List ℕ) (finger : List ℕ → List ℕ) (c : List ℕ) → length c ≡ 4096 → (p n : ℕ)
+        → IsData (layout_of blocks pages well_formed zero finger) p
+        → well_formed ((layout_of blocks pages well_formed zero finger).count_page p) (with_number c (4 * ((p - 1) % 1024)) n) ≡ true
+        → SetsCount (layout_of blocks pages well_formed zero finger) c (with_number c (4 * ((p - 1) % 1024)) n) p n }
+    ensures print { (blocks pages : ℕ) (well_formed : ℕ → List ℕ → Bool) (zero : List ℕ) (finger : List ℕ → List ℕ) (c : List ℕ) → length c ≡ 4096 → (p : ℕ) (print : Option (List ℕ))
+        → IsData (layout_of blocks pages well_formed zero finger) p → ((bytes : List ℕ) → print ≡ Some bytes → length bytes ≡ 20)
+        → well_formed ((layout_of blocks pages well_formed zero finger).print_page p) (with_bytes c (24 * ((p - 1) % 170)) (print_entry print)) ≡ true
+        → SetsPrint (layout_of blocks pages well_formed zero finger) c (with_bytes c (24 * ((p - 1) % 170)) (print_entry print)) p print }
 {}
 
 /// The edits of a write to a fresh page, and of an applied release that takes a print away, can be made.
