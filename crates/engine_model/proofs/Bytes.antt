@@ -134,7 +134,7 @@ entry_read c i (Some bytes) size fits =
     let four : length (take i c ++ (1 ∷ (0 ∷ (0 ∷ (0 ∷ []))))) ≡ i + 4 = simp length-append (omega (arith, length-take i c)) in
     let gone : drop (i + 4) (with_bytes c i (print_entry (Some bytes))) ≡ bytes ++ drop (i + length (print_entry (Some bytes))) c =
     ap (drop (i + 4)) split ∙ subst (λ n. drop n ((take i c ++ (1 ∷ (0 ∷ (0 ∷ (0 ∷ []))))) ++ (bytes ++ drop (i + length (print_entry (Some bytes))) c)) ≡ bytes ++ drop (i + length (print_entry (Some bytes))) c) four
-        (drop-append_seam (take i c ++ (1 ∷ (0 ∷ (0 ∷ (0 ∷ []))))) (bytes ++ drop (i + length (print_entry (Some bytes))) c)) in
+    (drop-append_seam (take i c ++ (1 ∷ (0 ∷ (0 ∷ (0 ∷ []))))) (bytes ++ drop (i + length (print_entry (Some bytes))) c)) in
     let read : take 20 (drop (i + 4) (with_bytes c i (print_entry (Some bytes)))) ≡ bytes =
     ap (take 20) gone ∙ subst (λ n. take n (bytes ++ drop (i + length (print_entry (Some bytes))) c) ≡ bytes) twenty (take-append_seam bytes (drop (i + length (print_entry (Some bytes))) c)) in
     rw flag (ap Some read)

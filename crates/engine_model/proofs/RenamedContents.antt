@@ -9,6 +9,7 @@ use Rattle.engine_model.specs.Known.{Known, Free, Tells}
 use Rattle.engine_model.specs.Commands.{Renamed, PageContent, Gains}
 use Rattle.engine_model.specs.Edits.{Ordered, ContentEdits}
 use Rattle.engine_model.proofs.EditContents.{edit_contents}
+use Rattle.engine_model.proofs.Lasts.{last_once}
 use Rattle.engine_model.proofs.Views.{some_is}
 
 -- the list of l gains the content, or has it as its last already
@@ -92,3 +93,11 @@ fold_contents lay known top sound array w v l o p d tells x c first old =
 pub shared : (lay : Layout) (sound : Bool) (array : ℕ → List (List ℕ)) (w : World) (k p : ℕ)
     → ContentsInvariant lay sound array w → k < lay.blocks → IsData lay p → cached_name lay w k ≡ p → Last (array k) (w.cached (lay.data_page p))
 shared lay sound array w k p old lt d n = (old.reads k lt).cached_mapped p d n
+
+-- so what the copying block gains is the last of the other's list
+pub copy_contents : (lay : Layout) (known : Known) (top : ℕ) (sound : Bool) (before after : ℕ → List (List ℕ)) (w v : World) (k l o p : ℕ) (content : List ℕ)
+    → Tells lay w known → Renamed lay known top w v l o p → PageContent lay known w v l p (w.cached (lay.data_page p)) → k < lay.blocks → cached_name lay w k ≡ p
+    → Last (before k) content → Gains before after l content → CountsInvariant lay top w → ContentsInvariant lay sound before w → ContentsInvariant lay sound after v
+copy_contents lay known top sound before after w v k l o p content tells x c lt n last gain first old =
+    let same : w.cached (lay.data_page p) ≡ content = last_once (before k) _ _ (shared lay sound before w k p old lt x.is_data n) last in
+    write_contents_kept lay known top sound before after w v l o p (w.cached (lay.data_page p)) tells x c (subst (λ z. Gains before after l z) (sym same) gain) first old

@@ -145,18 +145,18 @@ module _ (lay : Layout) (top : ℕ) (sound : Bool) (apart : Apart lay) (m : Mome
       → EngineInvariant lay top sound (record m { world = put (lay.print_page p) c m.world; calls = Change (Print p) (lay.print_page p) 0 1 ∷ m.calls })
   printed_keeps can =
       let now = print_keeps lay top sound apart m k p c (Some print) can.is_data can.sets can.dirty
-          (λ x e. can.count_first)
-          (λ x e. (can.data_first, sym (some_is print x e) ∙ can.is_true))
-          (λ x may h. absurd (none_some x (sym can.had_none ∙ h)))
-          (λ x e. can.counted) in
+      (λ x e. can.count_first)
+      (λ x e. (can.data_first, sym (some_is print x e) ∙ can.is_true))
+      (λ x may h. absurd (none_some x (sym can.had_none ∙ h)))
+      (λ x e. can.counted) in
       subst (λ n. EngineInvariant lay top sound (record m { world = put (lay.print_page p) c m.world; calls = Change (Print p) (lay.print_page p) n 1 ∷ m.calls })) (ap has_print can.had_none) now
 
   pub cleared_keeps : CanClear lay (known_at lay m) m.world p c print
       → EngineInvariant lay top sound (record m { world = put (lay.print_page p) c m.world; calls = Change (Print p) (lay.print_page p) 1 0 ∷ m.calls })
   cleared_keeps can =
       let now = print_keeps lay top sound apart m k p c None can.is_data can.sets can.dirty
-          (λ x e. absurd (none_some x e))
-          (λ x e. absurd (none_some x e))
-          (λ x may h. elim can.ordered_or_unborn [ inl edge ↦ edge | inr unborn ↦ absurd ((tells lay top sound m k).unborn_print p x can.is_data unborn may) ])
-          (λ x e. absurd (none_some x e)) in
+      (λ x e. absurd (none_some x e))
+      (λ x e. absurd (none_some x e))
+      (λ x may h. elim can.ordered_or_unborn [ inl edge ↦ edge | inr unborn ↦ absurd ((tells lay top sound m k).unborn_print p x can.is_data unborn may) ])
+      (λ x e. absurd (none_some x e)) in
       subst (λ n. EngineInvariant lay top sound (record m { world = put (lay.print_page p) c m.world; calls = Change (Print p) (lay.print_page p) n 0 ∷ m.calls })) (ap has_print can.had) now

@@ -2,12 +2,15 @@
 use Rattle.std.proofs.Common.{◌≡◌, ◌⊎◌, inl, inr, ℕ, Bool, sym, subst, List, [], ◌∷◌}
 use Rattle.engine_model.specs.World.{Layout}
 use Rattle.engine_model.specs.Entries.{Apart}
+use Rattle.engine_model.specs.Counts.{EdgeKinds}
+use Rattle.engine_model.specs.Paths.{IsAcyclic}
+use Rattle.engine_model.specs.Images.{ContentsFit, CountsFit, CrashImage}
 use Rattle.engine_model.specs.Invariant.{EngineInvariant, Moment, ToldTake, ToldZero}
 use Rattle.engine_model.specs.Schedule.{Each}
 use Rattle.engine_model.specs.SmallRuns.{ClearPrint, Lower, Order, OrderByBarrier, Place, Raise, SetName, SetPrint, SmallRun, SmallStep, Touch}
 use Rattle.engine_model.proofs.Lowered.{lowered_keeps}
 use Rattle.engine_model.proofs.Quiet.{barred_keeps, ordered_keeps, placed_keeps, raised_keeps, touched_keeps}
-use Rattle.engine_model.proofs.Schedule.{step_keeps}
+use Rattle.engine_model.proofs.Schedule.{fits, step_keeps}
 use Rattle.engine_model.proofs.SetNames.{named_keeps}
 use Rattle.engine_model.proofs.SetPrints.{cleared_keeps, printed_keeps}
 
@@ -28,3 +31,19 @@ module _ (lay : Layout) (top : ℕ) (sound : Bool) (apart : Apart lay) where
   small_run_keeps m (n ∷ ns) k r =
       let next : EngineInvariant lay top sound n = elim r.0 [ inl s ↦ step_keeps lay top sound apart m n k s | inr s ↦ small_step_keeps m n k s ] in
       (next, small_run_keeps n ns next r.1)
+
+  -- at every moment every image is fit, and the graph is acyclic and of the allowed kinds
+  pub small_run_fits : (m : Moment) (ns : List Moment) → EngineInvariant lay top sound m → SmallRun lay top m ns
+      → Each (λ n. (image : ℕ → List ℕ) → CrashImage n.world image → CountsFit lay image × ContentsFit lay sound image n.array) ns
+  small_run_fits m ns k r = each_more ns (small_run_keeps m ns k r)
+    where
+      each_more : (ns : List Moment) → Each (EngineInvariant lay top sound) ns → Each (λ n. (image : ℕ → List ℕ) → CrashImage n.world image → CountsFit lay image × ContentsFit lay sound image n.array) ns
+      each_more [] e = tt
+      each_more (n ∷ ns) e = (fits lay top sound n e.0, each_more ns e.1)
+
+  pub small_run_graph : (m : Moment) (ns : List Moment) → EngineInvariant lay top sound m → SmallRun lay top m ns → Each (λ n. IsAcyclic n.world.live × EdgeKinds lay n.world) ns
+  small_run_graph m ns k r = each_more ns (small_run_keeps m ns k r)
+    where
+      each_more : (ns : List Moment) → Each (EngineInvariant lay top sound) ns → Each (λ n. IsAcyclic n.world.live × EdgeKinds lay n.world) ns
+      each_more [] e = tt
+      each_more (n ∷ ns) e = ((e.0.counts.marks_and_edges.acyclic, e.0.counts.edge_kinds), each_more ns e.1)

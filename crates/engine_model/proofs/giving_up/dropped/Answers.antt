@@ -1,0 +1,9 @@
+use Rattle.engine_model.proofs.giving_up.dropped.Goals as goal
+use Rattle.engine_model.proofs.Bytes.{apart}
+use Rattle.engine_model.proofs.Dropped.{drop_contents, drop_keeps}
+
+pub returns : goal.returns
+returns c = record {
+  counts = λ lay top w v p apart old x. drop_keeps lay top w v p apart old x;
+  contents = drop_contents;
+}

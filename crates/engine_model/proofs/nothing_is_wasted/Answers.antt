@@ -1,9 +1,0 @@
-use Rattle.engine_model.proofs.nothing_is_wasted.Goals as goal
-use Rattle.engine_model.proofs.Tight.{start_tight, step_tight, end_tight}
-
-pub returns : goal.returns
-returns c = record {
-  start = start_tight;
-  kept = λ lay top apart m n k tight room s well. step_tight lay top apart m n k tight room s well;
-  ends = end_tight;
-}

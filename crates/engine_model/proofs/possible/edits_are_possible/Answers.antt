@@ -1,0 +1,8 @@
+use Rattle.engine_model.proofs.possible.edits_are_possible.Goals as goal
+use Rattle.engine_model.proofs.Examples.{empty_tells, release_applied, waiting_tells, write_content, write_gains, write_renamed}
+
+pub returns : goal.returns
+returns c = record {
+  written = (empty_tells, write_renamed, write_content, write_gains);
+  applied = (waiting_tells, release_applied);
+}
