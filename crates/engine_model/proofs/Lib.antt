@@ -34,6 +34,7 @@ pub mod Scans
 pub mod Switches
 pub mod SwitchRuns
 pub mod Session
+pub mod FlushSession
 pub mod Later
 pub mod PoolExact
 pub mod Waste

@@ -69,7 +69,7 @@ write_leads (Print p) d = subst (λ k. Leads printed (Print k) write_edits (cach
     one_is : (k : ℕ) → IsData printed k → 1 ≡ k
     one_is k h = omega (arith, h)
 
-first_step : Step printed 5 mounted wrote
+pub first_step : Step printed 5 mounted wrote
 first_step = Write 0 0 1 (7 ∷ []) write_renamed write_content write_gains
     (record { edits = write_edits; calls = refl; dirty = (refl, (refl, tt)); leads = write_leads }) (inl (refl, (λ q. refl)))
 

@@ -27,4 +27,5 @@ pub mod Bytes
 pub mod CoveredCount
 pub mod Examples
 pub mod Session
+pub mod FlushSession
 pub mod Counterexamples
