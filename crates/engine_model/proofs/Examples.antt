@@ -59,7 +59,7 @@ write_rest = record {
 only_one : (q : ℕ) → IsData printed q → 1 ≡ q
 only_one q d = omega (arith, d)
 
-empty_free : Free printed empty 1
+pub empty_free : Free printed empty 1
 empty_free = record { cached = refl; on_device = λ c q. elim q [ inl e ↦ rw e | inr x ↦ absurd x ] }
 
 pub empty_tells : Tells printed empty (asked true)

@@ -35,6 +35,7 @@ pub mod Switches
 pub mod SwitchRuns
 pub mod Session
 pub mod FlushSession
+pub mod SmallSession
 pub mod Later
 pub mod PoolExact
 pub mod Waste

@@ -6,7 +6,7 @@ use Rattle.engine_model.specs.Births.{Slot, Name, Print, IsSlot, Leads, cached_v
 use Rattle.engine_model.specs.Entries.{Apart}
 use Rattle.engine_model.specs.DeviceSteps.{AtRest}
 use Rattle.engine_model.specs.Examples.{printed, empty, written}
-use Rattle.engine_model.specs.Session.{discarded, discarded_world, discard_edits, dropped, lowered, lowered_world, mounted, release_edits, unborn_release, write_edits, wrote}
+use Rattle.engine_model.specs.Session.{discarded, discarded_world, discard_edits, dropped, count_gone, count_gone_world, mounted, release_edits, unborn_release, write_edits, wrote}
 use Rattle.engine_model.specs.Schedule.{Discard, DropData, ReleaseApplied, Run, Step, Write}
 use Rattle.engine_model.specs.Invariant.{EngineInvariant}
 use Rattle.engine_model.proofs.Examples.{tables, no_zero, no_other, is_data, write_renamed, write_content, write_gains}
@@ -124,7 +124,7 @@ discarded_step = Discard 0 1
         ((λ e. (refl, refl, refl)), (λ e. absurd (true≢false e)))
     leads (Print p) d = ((λ e. absurd (true≢false (sym e))), (λ e. refl))
 
-released_step : Step printed 5 discarded lowered
+released_step : Step printed 5 discarded count_gone
 released_step = ReleaseApplied unborn_release [] []
     (record {
       rest = record {
@@ -163,21 +163,21 @@ released_step = ReleaseApplied unborn_release [] []
       | inr o ↦ elim o [ inl e ↦ true≢false (rw e at d) | inr e ↦ true≢false (rw e at d) ]
     ]
 
-    same_data : (q : ℕ) → IsData printed q → (lowered_world.cached 4 ≡ discarded_world.cached 4) × (lowered_world.dirty 4 ≡ discarded_world.dirty 4)
+    same_data : (q : ℕ) → IsData printed q → (count_gone_world.cached 4 ≡ discarded_world.cached 4) × (count_gone_world.dirty 4 ≡ discarded_world.dirty 4)
     same_data q d = (refl, refl)
 
     one_is : (k : ℕ) → IsData printed k → 1 ≡ k
     one_is k h = omega (arith, h)
 
-    leads : (slot : Slot) → IsSlot printed slot → Leads printed slot release_edits (cached_value printed discarded_world slot) (cached_value printed lowered_world slot)
+    leads : (slot : Slot) → IsSlot printed slot → Leads printed slot release_edits (cached_value printed discarded_world slot) (cached_value printed count_gone_world slot)
     leads (Name l) lt = ((λ e. absurd (true≢false (sym e))), (λ e. refl))
-    leads (Print p) d = subst (λ k. Leads printed (Print k) release_edits (cached_value printed discarded_world (Print k)) (cached_value printed lowered_world (Print k))) (one_is p d)
+    leads (Print p) d = subst (λ k. Leads printed (Print k) release_edits (cached_value printed discarded_world (Print k)) (cached_value printed count_gone_world (Print k))) (one_is p d)
         ((λ e. (refl, refl, refl)), (λ e. absurd (true≢false e)))
 
 or_none : (x : Bool) → (x || false) ≡ x
 or_none x = grind arith
 
-drop_step : Step printed 5 lowered dropped
+drop_step : Step printed 5 count_gone dropped
 drop_step = DropData 1
     (record {
       is_data = is_data;
@@ -201,5 +201,5 @@ drop_step = DropData 1
     less : (a : ℕ) → a ≢ 4 → ((eqb a 1 || eqb a 3) || eqb a 2) ≡ ((eqb a 1 || eqb a 3) || (eqb a 2 || eqb a 4))
     less a ne = rw (ne_eqb a 4 ne) (ap (λ x. (eqb a 1 || eqb a 3) || x) (sym (or_none (eqb a 2))))
 
-pub sample_run : Run printed 5 mounted (wrote ∷ (discarded ∷ (lowered ∷ (dropped ∷ []))))
+pub sample_run : Run printed 5 mounted (wrote ∷ (discarded ∷ (count_gone ∷ (dropped ∷ []))))
 sample_run = (first_step, (discarded_step, (released_step, (drop_step, tt))))

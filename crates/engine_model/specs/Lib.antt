@@ -28,4 +28,5 @@ pub mod CoveredCount
 pub mod Examples
 pub mod Session
 pub mod FlushSession
+pub mod SmallSession
 pub mod Counterexamples

@@ -37,18 +37,18 @@ discarded_world = record {
   queue = unborn_release ∷ [];
 }
 
-abbrev pub discarded_array : ℕ → List (List ℕ)
-discarded_array l = cond (eqb l 0) ((0 ∷ []) ∷ ((7 ∷ []) ∷ ((0 ∷ []) ∷ []))) ((0 ∷ []) ∷ [])
+abbrev pub twice_array : ℕ → List (List ℕ)
+twice_array l = cond (eqb l 0) ((0 ∷ []) ∷ ((7 ∷ []) ∷ ((0 ∷ []) ∷ []))) ((0 ∷ []) ∷ [])
 
 abbrev pub discarded : Moment
-discarded = record { world = discarded_world; array = discarded_array; calls = told discard_edits (told write_edits []); pool = after_take 1 mounted_pool }
+discarded = record { world = discarded_world; array = twice_array; calls = told discard_edits (told write_edits []); pool = after_take 1 mounted_pool }
 
 -- the release is applied at once, and the print was unborn
 abbrev pub release_edits : List Edit
 release_edits = (record { slot = Print 1; at = 3; from = 1; to = 0 }) ∷ []
 
-abbrev pub lowered_world : World
-lowered_world = record {
+abbrev pub count_gone_world : World
+count_gone_world = record {
   newest = λ page. 0 ∷ [];
   older = λ page. [];
   cached = λ page. cond (eqb page 4) (7 ∷ []) (0 ∷ []);
@@ -59,10 +59,10 @@ lowered_world = record {
   queue = [];
 }
 
-abbrev pub lowered : Moment
-lowered = record {
-  world = lowered_world;
-  array = discarded_array;
+abbrev pub count_gone : Moment
+count_gone = record {
+  world = count_gone_world;
+  array = twice_array;
   calls = told release_edits (told discard_edits (told write_edits []));
   pool = after_zeroed 1 (after_take 1 mounted_pool);
 }
@@ -83,7 +83,7 @@ dropped_world = record {
 abbrev pub dropped : Moment
 dropped = record {
   world = dropped_world;
-  array = discarded_array;
+  array = twice_array;
   calls = told release_edits (told discard_edits (told write_edits []));
   pool = after_zeroed 1 (after_take 1 mounted_pool);
 }

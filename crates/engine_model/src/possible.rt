@@ -8,7 +8,7 @@ ghost use Rattle.engine_model.specs.Invariant.{EngineInvariant, known_at};
 ghost use Rattle.engine_model.specs.Known.{Tells};
 ghost use Rattle.engine_model.specs.Releases.{Applied};
 ghost use Rattle.engine_model.specs.Schedule.{Run};
-ghost use Rattle.engine_model.specs.Session.{discarded, dropped, lowered, mounted, wrote};
+ghost use Rattle.engine_model.specs.Session.{discarded, dropped, count_gone, mounted, wrote};
 
 /// The edits of a write to a fresh page, and of an applied release that takes a print away.
 pub fn edits_are_possible()
@@ -19,6 +19,6 @@ pub fn edits_are_possible()
 /// A session in small: a block is written and discarded, its release is applied and its content dropped, no page was written, and one is free.
 pub fn a_session_is_possible()
     ensures start { Apart printed × EngineInvariant printed 5 true mounted }
-    ensures run { Run printed 5 mounted (wrote ∷ (discarded ∷ (lowered ∷ (dropped ∷ [])))) }
+    ensures run { Run printed 5 mounted (wrote ∷ (discarded ∷ (count_gone ∷ (dropped ∷ [])))) }
     ensures free { (known_at printed dropped).free 1 ≡ true }
 {}
