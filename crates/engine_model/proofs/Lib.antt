@@ -36,6 +36,8 @@ pub mod SwitchRuns
 pub mod Session
 pub mod FlushSession
 pub mod SmallSession
+pub mod Pair
+pub mod Instances
 pub mod Later
 pub mod PoolExact
 pub mod Waste

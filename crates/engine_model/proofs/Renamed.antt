@@ -207,7 +207,7 @@ module _ (lay : Layout) (known : Known) (top : ℕ) (w v : World) (l o p : ℕ) 
     ]
   ]
 
-  write_edits : Edits lay top w v
+  pub write_edits : Edits lay top w v
   write_edits = record {
     newest = x.rest.newest;
     possible = x.rest.possible;

@@ -19,7 +19,7 @@ Holds before after l content = (after l ≡ before l ++ content ∷ []) ⊎ ((af
 module _ (lay : Layout) (known : Known) (top : ℕ) (sound : Bool) (before after : ℕ → List (List ℕ)) (w v : World) (l o p : ℕ) (content : List ℕ)
     (tells : Tells lay w known) (x : Renamed lay known top w v l o p) (c : PageContent lay known w v l p content)
     (here : Holds before after l content) (other : (k : ℕ) → k ≢ l → after k ≡ before k) where
-  write_content_edits : ContentEdits lay sound before after w v
+  pub write_content_edits : ContentEdits lay sound before after w v
   write_content_edits = record {
     rest = x.rest;
     dirty_fresh = λ q d y. elim (cases_eq q p) [

@@ -6,7 +6,9 @@ use Rattle.engine_model.specs.Births.{Slot, Name, Print, IsSlot, Leads, cached_v
 use Rattle.engine_model.specs.Entries.{Apart}
 use Rattle.engine_model.specs.DeviceSteps.{AtRest}
 use Rattle.engine_model.specs.Examples.{printed, empty, written}
-use Rattle.engine_model.specs.Session.{discarded, discarded_world, discard_edits, dropped, count_gone, count_gone_world, mounted, release_edits, unborn_release, write_edits, wrote}
+use Rattle.engine_model.specs.Session.{discarded, discarded_world, discard_edits, dropped, count_gone, count_gone_world, dropped_world, mounted, release_edits, unborn_release, write_edits, wrote}
+use Rattle.engine_model.specs.Drops.{Dropped}
+use Rattle.engine_model.specs.Pass.{Lowers, Pass}
 use Rattle.engine_model.specs.Schedule.{Discard, DropData, ReleaseApplied, Run, Step, Write}
 use Rattle.engine_model.specs.Invariant.{EngineInvariant}
 use Rattle.engine_model.proofs.Examples.{tables, no_zero, no_other, is_data, write_renamed, write_content, write_gains}
@@ -124,9 +126,9 @@ discarded_step = Discard 0 1
         ((λ e. (refl, refl, refl)), (λ e. absurd (true≢false e)))
     leads (Print p) d = ((λ e. absurd (true≢false (sym e))), (λ e. refl))
 
-released_step : Step printed 5 discarded count_gone
-released_step = ReleaseApplied unborn_release [] []
-    (record {
+pub release_lowers : Lowers printed discarded count_gone unborn_release [] []
+release_lowers = record {
+    applied = record {
       rest = record {
         newest = λ page. refl;
         possible = λ page c q. q;
@@ -151,11 +153,12 @@ released_step = ReleaseApplied unborn_release [] []
       from_map = λ e. absurd (omega (arith, e));
       from_hung_map = λ e. absurd (omega (arith, e));
       from_print = λ last. absurd (true≢false last.2);
-    })
-    (record { pages = λ q d. same_data q d; well_formed = λ page is. refl; first_page = (refl, refl) })
-    (λ l. refl)
-    (record { edits = release_edits; calls = refl; dirty = (refl, tt); leads = leads })
-    (inl (refl, (λ q. refl)))
+    };
+    data_kept = record { pages = λ q d. same_data q d; well_formed = λ page is. refl; first_page = (refl, refl) };
+    array = λ l. refl;
+    births = record { edits = release_edits; calls = refl; dirty = (refl, tt); leads = leads };
+    pool = inl (refl, (λ q. refl));
+  }
   where
     node : (page : ℕ) → IsTable printed page → written.dirty page ≡ false → ⊥
     node page is d = elim (tables page is) [
@@ -174,12 +177,14 @@ released_step = ReleaseApplied unborn_release [] []
     leads (Print p) d = subst (λ k. Leads printed (Print k) release_edits (cached_value printed discarded_world (Print k)) (cached_value printed count_gone_world (Print k))) (one_is p d)
         ((λ e. (refl, refl, refl)), (λ e. absurd (true≢false e)))
 
+released_step : Step printed 5 discarded count_gone
+released_step = ReleaseApplied unborn_release [] [] release_lowers.applied release_lowers.data_kept release_lowers.array release_lowers.births release_lowers.pool
+
 or_none : (x : Bool) → (x || false) ≡ x
 or_none x = grind arith
 
-drop_step : Step printed 5 count_gone dropped
-drop_step = DropData 1
-    (record {
+pub content_dropped : Dropped printed count_gone_world dropped_world 1
+content_dropped = record {
       is_data = is_data;
       no_count = refl;
       newest = λ page. refl;
@@ -193,13 +198,20 @@ drop_step = DropData 1
       dirty_gone = refl;
       cached = λ a ne. rw (ne_eqb a 4 ne);
       cached_gone = refl;
-    }) (λ l. refl) refl (λ q. refl)
+    }
   where
     gone : (a b : ℕ) → a ≢ 4 → (eqb a 2 && (eqb b 1 || eqb b 3)) ≡ ((eqb a 2 || eqb a 4) && (eqb b 1 || eqb b 3))
     gone a b ne = rw (ne_eqb a 4 ne) (ap (λ x. x && (eqb b 1 || eqb b 3)) (sym (or_none (eqb a 2))))
 
     less : (a : ℕ) → a ≢ 4 → ((eqb a 1 || eqb a 3) || eqb a 2) ≡ ((eqb a 1 || eqb a 3) || (eqb a 2 || eqb a 4))
     less a ne = rw (ne_eqb a 4 ne) (ap (λ x. (eqb a 1 || eqb a 3) || x) (sym (or_none (eqb a 2))))
+
+drop_step : Step printed 5 count_gone dropped
+drop_step = DropData 1 content_dropped (λ l. refl) refl (λ q. refl)
+
+-- the two steps are a pass over the queue
+pub sample_pass : Pass printed discarded [] (unborn_release ∷ []) dropped
+sample_pass = inr (count_gone, dropped, release_lowers, record { world = inr content_dropped; array = λ l. refl; calls = refl; pool = λ q. refl }, refl)
 
 pub sample_run : Run printed 5 mounted (wrote ∷ (discarded ∷ (count_gone ∷ (dropped ∷ []))))
 sample_run = (first_step, (discarded_step, (released_step, (drop_step, tt))))

@@ -29,4 +29,5 @@ pub mod Examples
 pub mod Session
 pub mod FlushSession
 pub mod SmallSession
+pub mod Pair
 pub mod Counterexamples

@@ -8,6 +8,7 @@ ghost use Rattle.engine_model.specs.Entries.{Apart, IsData, cached_name};
 ghost use Rattle.engine_model.specs.Examples.{written};
 ghost use Rattle.engine_model.specs.Invariant.{EngineInvariant, Moment};
 ghost use Rattle.engine_model.specs.Known.{Known, Tells};
+ghost use Rattle.engine_model.specs.Pair.{folded};
 ghost use Rattle.engine_model.specs.Schedule.{Step};
 ghost use Rattle.engine_model.specs.Session.{discarded};
 ghost use Rattle.engine_model.specs.World.{Layout, World};
