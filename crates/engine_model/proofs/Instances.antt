@@ -1,5 +1,5 @@
 -- The edits in general, met by a write and by a touched page.
-use Rattle.std.proofs.Common.{inl, true, ◌<◌, ◌≤◌, arith, refl, ◌∷◌, []}
+use Rattle.std.proofs.Common.{inl, true, arith, refl, ◌∷◌, []}
 use Rattle.std.proofs.lemmas.Bool.{or_left}
 use Rattle.engine_model.specs.Edits.{ContentEdits, Edits, Grown}
 use Rattle.engine_model.specs.Invariant.{ToldPool}

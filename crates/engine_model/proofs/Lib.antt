@@ -52,3 +52,4 @@ pub mod SmallSteps
 pub mod Flushes
 pub mod SetNames
 pub mod Lowered
+pub mod GivenUp

@@ -1,10 +1,10 @@
 -- A fold can be made.
-use Rattle.std.proofs.Common.{◌≡◌, ◌≢◌, ◌⊎◌, inl, inr, ◌<◌, ◌≤◌, ℕ, Bool, true, false, arith, refl, sym, List, [], ◌∷◌, true≢false, eqb, eqb-true}
+use Rattle.std.proofs.Common.{◌≡◌, ◌≢◌, ◌⊎◌, inl, inr, ◌<◌, ◌≤◌, ℕ, true, false, arith, refl, sym, true≢false, eqb, eqb-true}
 use Rattle.std.proofs.lemmas.Bool.{and_parts}
-use Rattle.engine_model.specs.Entries.{IsData, IsTable, cached_count, cached_name, cached_print}
+use Rattle.engine_model.specs.Entries.{IsData, IsTable}
 use Rattle.engine_model.specs.Paths.{Closes}
 use Rattle.engine_model.specs.Edits.{CacheOnly}
-use Rattle.engine_model.specs.Commands.{Mandatory, PageContent, Renamed}
+use Rattle.engine_model.specs.Commands.{PageContent, Renamed}
 use Rattle.engine_model.specs.Examples.{asked}
 use Rattle.engine_model.specs.Pair.{equal_pages, folded, pair}
 use Rattle.engine_model.proofs.Graphs.{way_begins}

@@ -1,14 +1,14 @@
 -- Edits that leave the names, the prints and the queue: a page is touched, a fresh page gets its content, a count is raised, an edge is added.
-use Rattle.std.proofs.Common.{◌≡◌, ◌≢◌, ◌⊎◌, inl, inr, ◌+◌, ◌<◌, ◌≤◌, ℕ, Bool, true, false, not, ◌||◌, ◌&&◌, arith, refl, sym, ap, ◌∙◌, subst, List, eqb, eq-eqb, ne_eqb, eqb-true, true≢false, eq-zero-or-pos}
+use Rattle.std.proofs.Common.{◌≡◌, ◌≢◌, ◌⊎◌, inl, inr, ◌+◌, ◌<◌, ◌≤◌, ℕ, Bool, true, false, not, ◌||◌, ◌&&◌, arith, refl, sym, ap, ◌∙◌, subst, List, eqb, eq-eqb, ne_eqb, eqb-true, true≢false}
 use Rattle.std.proofs.lemmas.Bool.{cases_eq, or_left, or_right, or_cases, and_parts, and_from, not_from_false}
-use Rattle.engine_model.specs.World.{Agree, Layout, World, queued}
-use Rattle.engine_model.specs.Entries.{Apart, EdgeKind, HasEdge, IsData, IsTable, cached_count, cached_name, cached_print}
+use Rattle.engine_model.specs.World.{Layout, World}
+use Rattle.engine_model.specs.Entries.{Apart, EdgeKind, HasEdge, IsData, IsTable, cached_count}
 use Rattle.engine_model.specs.Paths.{IsAcyclic, Closes}
 use Rattle.engine_model.specs.Known.{Free}
 use Rattle.engine_model.specs.Pool.{Told, after_take}
 use Rattle.engine_model.specs.Invariant.{EngineInvariant, Moment, ToldPool, ToldTake}
-use Rattle.engine_model.specs.Edits.{CacheOnly, ContentEdits, Edits, Grown}
-use Rattle.engine_model.specs.SmallSteps.{CanRaise, SetsCount, ordered, ordered_by_barrier, placed, put, touched}
+use Rattle.engine_model.specs.Edits.{CacheOnly, ContentEdits, Grown}
+use Rattle.engine_model.specs.SmallSteps.{CanRaise, ordered, ordered_by_barrier, placed, put, touched}
 use Rattle.engine_model.proofs.Grown.{grown_edits}
 use Rattle.engine_model.proofs.Graphs.{acyclic_more}
 use Rattle.engine_model.proofs.Whole.{edits_keep_all, nothing_told, pool_untold}

@@ -128,37 +128,37 @@ discarded_step = Discard 0 1
 
 pub release_lowers : Lowers printed discarded count_gone unborn_release [] []
 release_lowers = record {
-    applied = record {
-      rest = record {
-        newest = λ page. refl;
-        possible = λ page c q. q;
-        cached_clean = λ page is d. absurd (node page is d);
-        hung = λ a. refl;
-        dirty_kept = λ a h. h;
-        live_kept = λ a b h. h;
-        barred_kept = λ a b h. h;
-        live_ends = λ a b h. inl h;
-        barred_ends = λ a b h. inl h;
-      };
-      edges = record { live = λ a b h. inl h; barred = λ a b h. inl h };
-      no_cycle = λ b. elim b [ inl z ↦ omega (arith, z) | inr f ↦ true≢false f.0.2 ];
-      was_queued = refl;
-      removed = refl;
-      names = λ l lt. refl;
-      count_here = refl;
-      count_other = λ q d ne. absurd (no_other q d ne);
-      print_kept = λ pos. absurd (omega (arith, pos));
-      print_gone = λ z. refl;
-      print_other = λ q d ne. absurd (no_other q d ne);
-      from_map = λ e. absurd (omega (arith, e));
-      from_hung_map = λ e. absurd (omega (arith, e));
-      from_print = λ last. absurd (true≢false last.2);
+  applied = record {
+    rest = record {
+      newest = λ page. refl;
+      possible = λ page c q. q;
+      cached_clean = λ page is d. absurd (node page is d);
+      hung = λ a. refl;
+      dirty_kept = λ a h. h;
+      live_kept = λ a b h. h;
+      barred_kept = λ a b h. h;
+      live_ends = λ a b h. inl h;
+      barred_ends = λ a b h. inl h;
     };
-    data_kept = record { pages = λ q d. same_data q d; well_formed = λ page is. refl; first_page = (refl, refl) };
-    array = λ l. refl;
-    births = record { edits = release_edits; calls = refl; dirty = (refl, tt); leads = leads };
-    pool = inl (refl, (λ q. refl));
-  }
+    edges = record { live = λ a b h. inl h; barred = λ a b h. inl h };
+    no_cycle = λ b. elim b [ inl z ↦ omega (arith, z) | inr f ↦ true≢false f.0.2 ];
+    was_queued = refl;
+    removed = refl;
+    names = λ l lt. refl;
+    count_here = refl;
+    count_other = λ q d ne. absurd (no_other q d ne);
+    print_kept = λ pos. absurd (omega (arith, pos));
+    print_gone = λ z. refl;
+    print_other = λ q d ne. absurd (no_other q d ne);
+    from_map = λ e. absurd (omega (arith, e));
+    from_hung_map = λ e. absurd (omega (arith, e));
+    from_print = λ last. absurd (true≢false last.2);
+  };
+  data_kept = record { pages = λ q d. same_data q d; well_formed = λ page is. refl; first_page = (refl, refl) };
+  array = λ l. refl;
+  births = record { edits = release_edits; calls = refl; dirty = (refl, tt); leads = leads };
+  pool = inl (refl, (λ q. refl));
+}
   where
     node : (page : ℕ) → IsTable printed page → written.dirty page ≡ false → ⊥
     node page is d = elim (tables page is) [
@@ -185,20 +185,20 @@ or_none x = grind arith
 
 pub content_dropped : Dropped printed count_gone_world dropped_world 1
 content_dropped = record {
-      is_data = is_data;
-      no_count = refl;
-      newest = λ page. refl;
-      possible = λ page c q. q;
-      hung = λ a. refl;
-      queue = refl;
-      barred = λ a b. refl;
-      live = λ a b ne. gone a b ne;
-      live_gone = λ b. refl;
-      dirty = λ a ne. less a ne;
-      dirty_gone = refl;
-      cached = λ a ne. rw (ne_eqb a 4 ne);
-      cached_gone = refl;
-    }
+  is_data = is_data;
+  no_count = refl;
+  newest = λ page. refl;
+  possible = λ page c q. q;
+  hung = λ a. refl;
+  queue = refl;
+  barred = λ a b. refl;
+  live = λ a b ne. gone a b ne;
+  live_gone = λ b. refl;
+  dirty = λ a ne. less a ne;
+  dirty_gone = refl;
+  cached = λ a ne. rw (ne_eqb a 4 ne);
+  cached_gone = refl;
+}
   where
     gone : (a b : ℕ) → a ≢ 4 → (eqb a 2 && (eqb b 1 || eqb b 3)) ≡ ((eqb a 2 || eqb a 4) && (eqb b 1 || eqb b 3))
     gone a b ne = rw (ne_eqb a 4 ne) (ap (λ x. x && (eqb b 1 || eqb b 3)) (sym (or_none (eqb a 2))))

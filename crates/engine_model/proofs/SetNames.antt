@@ -1,5 +1,5 @@
 -- A name is set or taken away, and the old one is owed a release.
-use Rattle.std.proofs.Common.{◌≡◌, ◌≢◌, ◌⊎◌, inl, inr, ◌+◌, ◌<◌, ◌≤◌, ℕ, Bool, true, false, cond, arith, refl, sym, ap, ◌∙◌, subst, List, [], ◌∷◌, ◌++◌, Some, eqb, eqb-true, eq-eqb, ne_eqb, true≢false}
+use Rattle.std.proofs.Common.{◌≡◌, ◌≢◌, inl, inr, ◌+◌, ◌<◌, ◌≤◌, ℕ, Bool, true, cond, arith, refl, sym, ap, ◌∙◌, subst, List, [], ◌∷◌, ◌++◌, eqb-true, eq-eqb, ne_eqb, true≢false}
 use Rattle.std.proofs.lemmas.Bool.{cases_eq}
 use Rattle.engine_model.specs.World.{Layout, World, queued}
 use Rattle.engine_model.specs.Entries.{Apart, IsData, cached_count, cached_name, cached_names, cached_print}
@@ -8,7 +8,7 @@ use Rattle.engine_model.specs.Invariant.{EngineInvariant, Moment, ToldBirths, kn
 use Rattle.engine_model.specs.Known.{Known, Tells}
 use Rattle.engine_model.specs.Edits.{CacheOnly, ContentEdits, Edits, Ordered}
 use Rattle.engine_model.specs.Commands.{Released}
-use Rattle.engine_model.specs.SmallSteps.{CanName, GainsOrHolds, IsBacked, held_by, named, put}
+use Rattle.engine_model.specs.SmallSteps.{CanName, GainsOrHolds, IsBacked, held_by, named}
 use Rattle.engine_model.proofs.Quiet.{map_table, put_formed, put_here, put_other, put_rest}
 use Rattle.engine_model.proofs.Renamed.{names_gained, names_lost, names_other, name_lost, one_hung, queue_here, queue_in_range, queue_other, still, zero_dirty}
 use Rattle.engine_model.proofs.Schedule.{tells}

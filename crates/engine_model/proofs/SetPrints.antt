@@ -1,13 +1,13 @@
 -- A print is set once its edges stand, and cleared once its edge stands or where it is unborn.
-use Rattle.std.proofs.Common.{◌≡◌, ◌≢◌, ◌⊎◌, inl, inr, ◌<◌, ◌≤◌, ℕ, Bool, true, false, arith, refl, sym, ap, ◌∙◌, subst, List, [], ◌∷◌, Option, Some, None, eqb, eqb-true, eq-eqb, true≢false}
+use Rattle.std.proofs.Common.{◌≡◌, ◌≢◌, ◌⊎◌, inl, inr, ◌<◌, ℕ, Bool, true, arith, refl, sym, ap, ◌∙◌, subst, List, [], ◌∷◌, Option, Some, None, eqb-true, eq-eqb, true≢false}
 use Rattle.std.proofs.lemmas.Bool.{cases_eq}
 use Rattle.engine_model.specs.World.{Layout, Possible, World}
-use Rattle.engine_model.specs.Entries.{Apart, IsData, MayPrint, cached_count, cached_name, cached_names, cached_print}
-use Rattle.engine_model.specs.Births.{Call, Change, IsSlot, Leads, Name, Print, Slot, cached_value, has_print, same_slot}
+use Rattle.engine_model.specs.Entries.{Apart, IsData, MayPrint, cached_count, cached_name, cached_print}
+use Rattle.engine_model.specs.Births.{Change, IsSlot, Leads, Name, Print, Slot, cached_value, has_print}
 use Rattle.engine_model.specs.Invariant.{EngineInvariant, Moment, ToldBirths, known_at}
 use Rattle.engine_model.specs.Edits.{CacheOnly, ContentEdits, Edits, Ordered}
 use Rattle.engine_model.specs.SmallSteps.{CanClear, CanPrint, SetsPrint, put}
-use Rattle.engine_model.proofs.Quiet.{count_table, print_table, put_formed, put_here, put_other, put_rest}
+use Rattle.engine_model.proofs.Quiet.{print_table, put_formed, put_here, put_other, put_rest}
 use Rattle.engine_model.proofs.Schedule.{tells}
 use Rattle.engine_model.proofs.Views.{names_by, none_some, some_is}
 use Rattle.engine_model.proofs.Whole.{edits_keep_all, pool_untold}

@@ -1,16 +1,15 @@
 -- The session by small steps is a run of small steps.
-use Rattle.std.proofs.Common.{◌≡◌, ◌≢◌, inl, inr, ◌⊎◌, ◌∙◌, ◌++◌, ◌+◌, ◌<◌, ℕ, Bool, true, false, arith, refl, sym, List, [], ◌∷◌, Some, None, true≢false, eqb, ne_eqb}
+use Rattle.std.proofs.Common.{◌≡◌, ◌≢◌, inl, inr, ◌⊎◌, ◌∙◌, ◌++◌, ℕ, false, arith, refl, sym, List, [], ◌∷◌, true≢false, ne_eqb}
 use Rattle.engine_model.specs.World.{World}
-use Rattle.engine_model.specs.Entries.{EdgeKind, IsData}
+use Rattle.engine_model.specs.Entries.{EdgeKind}
 use Rattle.engine_model.specs.Paths.{Closes}
-use Rattle.engine_model.specs.Edits.{Ordered}
 use Rattle.engine_model.specs.Commands.{Gains}
-use Rattle.engine_model.specs.Invariant.{Moment, known_at}
-use Rattle.engine_model.specs.SmallSteps.{CanClear, CanLower, CanName, CanPrint, CanRaise, SetsCount, SetsName, SetsPrint}
-use Rattle.engine_model.specs.SmallRuns.{ClearPrint, Lower, Order, Place, Raise, SetName, SetPrint, SmallRun, SmallStep, Touch}
+use Rattle.engine_model.specs.Invariant.{known_at}
+use Rattle.engine_model.specs.SmallSteps.{CanClear, CanLower, CanName, CanPrint, CanRaise, SetsCount, SetsName}
+use Rattle.engine_model.specs.SmallRuns.{ClearPrint, Lower, Order, Place, Raise, SetName, SetPrint, SmallRun, Touch}
 use Rattle.engine_model.specs.Examples.{printed, written_array}
 use Rattle.engine_model.specs.Session.{mounted, twice_array, unborn_release}
-use Rattle.engine_model.specs.SmallSession.{content_placed, count_before_map, count_before_print, count_lowered, count_raised, count_touched, data_before_map, data_before_print, map_touched, name_gone, name_set, print_cleared, print_set, print_touched, small_moments}
+use Rattle.engine_model.specs.SmallSession.{count_before_map, count_before_print, count_lowered, count_raised, data_before_map, data_before_print, name_gone, name_set, print_cleared, print_set, print_touched, small_moments}
 use Rattle.engine_model.proofs.Examples.{empty_free, is_data, no_other, no_zero}
 use Rattle.engine_model.proofs.Graphs.{way_begins}
 

@@ -1,5 +1,5 @@
 -- Each small step keeps the invariant, and so does a run of steps and small steps.
-use Rattle.std.proofs.Common.{◌≡◌, ◌⊎◌, inl, inr, ℕ, Bool, sym, subst, List, [], ◌∷◌}
+use Rattle.std.proofs.Common.{inl, inr, ℕ, Bool, subst, List, [], ◌∷◌}
 use Rattle.engine_model.specs.World.{Layout}
 use Rattle.engine_model.specs.Entries.{Apart}
 use Rattle.engine_model.specs.Counts.{EdgeKinds}
@@ -7,8 +7,9 @@ use Rattle.engine_model.specs.Paths.{IsAcyclic}
 use Rattle.engine_model.specs.Images.{ContentsFit, CountsFit, CrashImage}
 use Rattle.engine_model.specs.Invariant.{EngineInvariant, Moment, ToldTake, ToldZero}
 use Rattle.engine_model.specs.Schedule.{Each}
-use Rattle.engine_model.specs.SmallRuns.{ClearPrint, Lower, Order, OrderByBarrier, Place, Raise, SetName, SetPrint, SmallRun, SmallStep, Touch}
-use Rattle.engine_model.proofs.Lowered.{lowered_keeps}
+use Rattle.engine_model.specs.SmallRuns.{ClearPrint, GiveUp, Lower, Order, OrderByBarrier, Place, Raise, Recount, SetName, SetPrint, SmallRun, SmallStep, Touch}
+use Rattle.engine_model.proofs.GivenUp.{given_up_keeps}
+use Rattle.engine_model.proofs.Lowered.{lowered_keeps, recounted_keeps}
 use Rattle.engine_model.proofs.Quiet.{barred_keeps, ordered_keeps, placed_keeps, raised_keeps, touched_keeps}
 use Rattle.engine_model.proofs.Schedule.{fits, step_keeps}
 use Rattle.engine_model.proofs.SetNames.{named_keeps}
@@ -25,6 +26,9 @@ module _ (lay : Layout) (top : ℕ) (sound : Bool) (apart : Apart lay) where
   small_step_keeps m n k (SetName l o p c array can gain e) = rw e (named_keeps lay top sound apart m k l o p c can array gain)
   small_step_keeps m n k (ClearPrint p c print can e) = rw e (cleared_keeps lay top sound apart m k p c print can)
   small_step_keeps m n k (Lower r before after c count pool can e told) = rw e (lowered_keeps lay top sound apart m k r before after c count can pool (subst (λ x. ToldZero lay r.page m x) e told))
+
+  small_step_keeps m n k (Recount p c count pool can e told) = rw e (recounted_keeps lay top sound apart m k p c count can pool (subst (λ x. ToldZero lay p m x) e told))
+  small_step_keeps m n k (GiveUp p is none e) = rw e (given_up_keeps lay top sound apart m k p is none)
 
   pub small_run_keeps : (m : Moment) (ns : List Moment) → EngineInvariant lay top sound m → SmallRun lay top m ns → Each (EngineInvariant lay top sound) ns
   small_run_keeps m [] k r = tt

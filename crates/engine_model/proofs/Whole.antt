@@ -1,6 +1,6 @@
 -- Edits that bring what they are to bring keep the invariant whole.
-use Rattle.std.proofs.Common.{◌≡◌, ◌≢◌, inl, inr, ◌<◌, ℕ, Bool, refl, sym, ap, ◌∙◌, List, [], Option}
-use Rattle.engine_model.specs.World.{Agree, Layout, World}
+use Rattle.std.proofs.Common.{◌≡◌, ◌<◌, ℕ, Bool, sym, ap, ◌∙◌, []}
+use Rattle.engine_model.specs.World.{Agree, Layout}
 use Rattle.engine_model.specs.Entries.{IsData, cached_count, cached_name, cached_print}
 use Rattle.engine_model.specs.Births.{BirthKnown, IsSlot, Leads, Name, Print, Slot, cached_value, has_print}
 use Rattle.engine_model.specs.Pool.{PoolKnows}

@@ -2,7 +2,6 @@
 use Rattle.std.specs.Prelude.{Bool, List, None, Option, Some, [], cond, eqb, false, not, true, ℕ, ◌&&◌, ◌<◌, ◌||◌, ◌∷◌, ◌≡◌, ◌⊎◌}
 use Rattle.engine_model.specs.World.{Layout, Possible, World}
 use Rattle.engine_model.specs.Entries.{IsData}
-use Rattle.engine_model.specs.Examples.{written}
 
 -- a block, whose value is its map entry, or a data page, whose value is 1 with a print and 0 without
 pub data Slot : Type 0 where
@@ -114,8 +113,10 @@ pub record BirthKnown (lay : Layout) (w : World) (calls : List Call) (slot : Slo
       → is_met slot (place_of lay slot) (value_in lay slot c) (since (place_of lay slot) calls) ≡ true
   pub unrecorded : (c : List ℕ) → is_changed slot (since (place_of lay slot) calls) ≡ false → Possible w (place_of lay slot) c
       → value_in lay slot c ≡ cached_value lay w slot
-  pub left : is_changed slot (since (place_of lay slot) calls) ≡ true → value_left slot (since (place_of lay slot) calls) ≡ cached_value lay w slot
-  pub written : wrote_last (place_of lay slot) calls ≡ true → value_in lay slot (w.newest (place_of lay slot)) ≡ cached_value lay w slot
+  pub left : is_changed slot (since (place_of lay slot) calls) ≡ true
+      → value_left slot (since (place_of lay slot) calls) ≡ cached_value lay w slot
+  pub written : wrote_last (place_of lay slot) calls ≡ true
+      → value_in lay slot (w.newest (place_of lay slot)) ≡ cached_value lay w slot
   -- what is recorded stands on a node
   pub node : is_changed slot (since (place_of lay slot) calls) ≡ true
       → (w.dirty (place_of lay slot) ≡ true) ⊎ ((w.hung (place_of lay slot) ≡ true) × (wrote_last (place_of lay slot) calls ≡ true))

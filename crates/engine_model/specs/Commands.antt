@@ -59,7 +59,8 @@ pub record Renamed (lay : Layout) (known : Known) (top : ℕ) (w v : World) (l o
 
 -- The content at p of a write, beside the facts of Renamed: either p is fresh and gets the content, or p has it already.
 pub record PageContent (lay : Layout) (known : Known) (w v : World) (l p : ℕ) (content : List ℕ) : Type 0 where
-  pub data_other : (q : ℕ) → IsData lay q → q ≢ p → (v.cached (lay.data_page q) ≡ w.cached (lay.data_page q)) × (v.dirty (lay.data_page q) ≡ w.dirty (lay.data_page q))
+  pub data_other : (q : ℕ) → IsData lay q → q ≢ p
+      → (v.cached (lay.data_page q) ≡ w.cached (lay.data_page q)) × (v.dirty (lay.data_page q) ≡ w.dirty (lay.data_page q))
   pub data_here : v.cached (lay.data_page p) ≡ content
   pub chosen :
       ((known.free p ≡ true) × (v.dirty (lay.data_page p) ≡ true) × (cached_print lay v p ≡ Some (lay.finger content)) × Ordered v (lay.data_page p) (lay.print_page p))
@@ -75,6 +76,7 @@ pub record Gains (before after : ℕ → List (List ℕ)) (l : ℕ) (content : L
 
 -- a release or a discard leaves the data pages
 pub record DataKept (lay : Layout) (w v : World) : Type 0 where
-  pub pages : (q : ℕ) → IsData lay q → (v.cached (lay.data_page q) ≡ w.cached (lay.data_page q)) × (v.dirty (lay.data_page q) ≡ w.dirty (lay.data_page q))
+  pub pages : (q : ℕ) → IsData lay q
+      → (v.cached (lay.data_page q) ≡ w.cached (lay.data_page q)) × (v.dirty (lay.data_page q) ≡ w.dirty (lay.data_page q))
   pub well_formed : (page : ℕ) → IsTable lay page → lay.well_formed page (v.cached page) ≡ true
   pub first_page : (v.dirty 0 ≡ false) × (v.cached 0 ≡ w.cached 0)

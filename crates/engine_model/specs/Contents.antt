@@ -2,7 +2,6 @@
 use Rattle.std.specs.Prelude.{Bool, List, Some, [], false, true, ℕ, ◌<◌, ◌∷◌, ◌≡◌}
 use Rattle.engine_model.specs.World.{Has, Layout, Possible, World}
 use Rattle.engine_model.specs.Entries.{HasEdge, IsData, IsTable, MayName, MayPrint, cached_count, cached_name, cached_print}
-use Rattle.engine_model.specs.Examples.{printed}
 
 -- c is the last of these
 abbrev pub Last : List (List ℕ) → List ℕ → Type 0
@@ -12,11 +11,16 @@ Last (x ∷ (y ∷ ys)) c = Last (y ∷ ys) c
 
 -- fresh data goes before its names and its print; and a data page that is not dirty is cached as it was written last
 pub record DataOrdered (lay : Layout) (w : World) (p : ℕ) : Type 0 where
-  pub name_dirty : (l : ℕ) → l < lay.blocks → cached_name lay w l ≡ p → w.dirty (lay.data_page p) ≡ true → w.live (lay.data_page p) (lay.map_page l) ≡ true
-  pub name_hung : (l : ℕ) → l < lay.blocks → cached_name lay w l ≡ p → w.hung (lay.data_page p) ≡ true → HasEdge w (lay.data_page p) (lay.map_page l)
-  pub print_dirty : (print : List ℕ) → cached_print lay w p ≡ Some print → w.dirty (lay.data_page p) ≡ true → w.live (lay.data_page p) (lay.print_page p) ≡ true
-  pub print_hung : (print : List ℕ) → cached_print lay w p ≡ Some print → w.hung (lay.data_page p) ≡ true → HasEdge w (lay.data_page p) (lay.print_page p)
-  pub settled : (c : List ℕ) → 0 < cached_count lay w p → w.dirty (lay.data_page p) ≡ false → w.hung (lay.data_page p) ≡ false → Possible w (lay.data_page p) c → c ≡ w.newest (lay.data_page p)
+  pub name_dirty : (l : ℕ) → l < lay.blocks → cached_name lay w l ≡ p → w.dirty (lay.data_page p) ≡ true
+      → w.live (lay.data_page p) (lay.map_page l) ≡ true
+  pub name_hung : (l : ℕ) → l < lay.blocks → cached_name lay w l ≡ p → w.hung (lay.data_page p) ≡ true
+      → HasEdge w (lay.data_page p) (lay.map_page l)
+  pub print_dirty : (print : List ℕ) → cached_print lay w p ≡ Some print → w.dirty (lay.data_page p) ≡ true
+      → w.live (lay.data_page p) (lay.print_page p) ≡ true
+  pub print_hung : (print : List ℕ) → cached_print lay w p ≡ Some print → w.hung (lay.data_page p) ≡ true
+      → HasEdge w (lay.data_page p) (lay.print_page p)
+  pub settled : (c : List ℕ) → 0 < cached_count lay w p → w.dirty (lay.data_page p) ≡ false → w.hung (lay.data_page p) ≡ false
+      → Possible w (lay.data_page p) c → c ≡ w.newest (lay.data_page p)
   pub clean : w.dirty (lay.data_page p) ≡ false → w.newest (lay.data_page p) ≡ w.cached (lay.data_page p)
 
 -- p's data page stands as it is: it has one possible content, and is no node

@@ -3,18 +3,24 @@ use Rattle.std.specs.Prelude.{Bool, List, None, Some, [], cond, eqb, false, get_
 use Rattle.engine_model.specs.World.{Layout, Possible, World}
 use Rattle.engine_model.specs.Entries.{HasEdge, IsData, MayName, MayPrint, cached_count, cached_name, cached_print}
 use Rattle.engine_model.specs.Contents.{PrintsTrue, Reads, WellFormed}
-use Rattle.engine_model.specs.Examples.{printed}
 
 pub record WeakOrdered (lay : Layout) (w : World) (p : ℕ) : Type 0 where
-  pub name_dirty : (l : ℕ) → l < lay.blocks → cached_name lay w l ≡ p → w.dirty (lay.data_page p) ≡ true → w.live (lay.data_page p) (lay.map_page l) ≡ true
-  pub name_hung : (l : ℕ) → l < lay.blocks → cached_name lay w l ≡ p → w.hung (lay.data_page p) ≡ true → HasEdge w (lay.data_page p) (lay.map_page l)
-  pub print_dirty : (print : List ℕ) → cached_print lay w p ≡ Some print → w.dirty (lay.data_page p) ≡ true → w.live (lay.data_page p) (lay.print_page p) ≡ true
-  pub print_hung : (print : List ℕ) → cached_print lay w p ≡ Some print → w.hung (lay.data_page p) ≡ true → HasEdge w (lay.data_page p) (lay.print_page p)
-  pub settled : (c : List ℕ) → 0 < cached_count lay w p → w.dirty (lay.data_page p) ≡ false → w.hung (lay.data_page p) ≡ false → Possible w (lay.data_page p) c → c ≡ w.newest (lay.data_page p)
+  pub name_dirty : (l : ℕ) → l < lay.blocks → cached_name lay w l ≡ p → w.dirty (lay.data_page p) ≡ true
+      → w.live (lay.data_page p) (lay.map_page l) ≡ true
+  pub name_hung : (l : ℕ) → l < lay.blocks → cached_name lay w l ≡ p → w.hung (lay.data_page p) ≡ true
+      → HasEdge w (lay.data_page p) (lay.map_page l)
+  pub print_dirty : (print : List ℕ) → cached_print lay w p ≡ Some print → w.dirty (lay.data_page p) ≡ true
+      → w.live (lay.data_page p) (lay.print_page p) ≡ true
+  pub print_hung : (print : List ℕ) → cached_print lay w p ≡ Some print → w.hung (lay.data_page p) ≡ true
+      → HasEdge w (lay.data_page p) (lay.print_page p)
+  pub settled : (c : List ℕ) → 0 < cached_count lay w p → w.dirty (lay.data_page p) ≡ false → w.hung (lay.data_page p) ≡ false
+      → Possible w (lay.data_page p) c → c ≡ w.newest (lay.data_page p)
 
 pub record WeakStands (lay : Layout) (w : World) (p : ℕ) : Type 0 where
-  pub named : (l : ℕ) → l < lay.blocks → MayName lay w p l → (c : List ℕ) → Possible w (lay.data_page p) c → c ≡ w.newest (lay.data_page p)
-  pub printed : (print : List ℕ) → MayPrint lay w p print → (c : List ℕ) → Possible w (lay.data_page p) c → c ≡ w.newest (lay.data_page p)
+  pub named : (l : ℕ) → l < lay.blocks → MayName lay w p l → (c : List ℕ) → Possible w (lay.data_page p) c
+      → c ≡ w.newest (lay.data_page p)
+  pub printed : (print : List ℕ) → MayPrint lay w p print → (c : List ℕ) → Possible w (lay.data_page p) c
+      → c ≡ w.newest (lay.data_page p)
 
 pub record WeakContents (lay : Layout) (sound : Bool) (array : ℕ → List (List ℕ)) (w : World) : Type 0 where
   pub fresh_data_first : (p : ℕ) → IsData lay p → WeakOrdered lay w p

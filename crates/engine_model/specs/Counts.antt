@@ -33,7 +33,8 @@ pub record MarksAndEdges (lay : Layout) (w : World) : Type 0 where
   pub live_after : (a b : ℕ) → w.live a b ≡ true → w.dirty b ≡ true
   pub barred_before : (a b : ℕ) → w.barred a b ≡ true → w.hung a ≡ true
   pub barred_after : (a b : ℕ) → w.barred a b ≡ true → w.dirty b ≡ true
-  pub settled : (page : ℕ) (c : List ℕ) → IsTable lay page → w.dirty page ≡ false → w.hung page ≡ false → Possible w page c → c ≡ w.cached page
+  pub settled : (page : ℕ) (c : List ℕ) → IsTable lay page → w.dirty page ≡ false → w.hung page ≡ false → Possible w page c
+      → c ≡ w.cached page
   pub clean : (page : ℕ) → IsTable lay page → w.dirty page ≡ false → w.newest page ≡ w.cached page
 
 -- an edge leads from a data or count page to a map or print page, or from one of these to a count page: so none leads to a data page

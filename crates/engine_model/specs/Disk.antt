@@ -1,7 +1,6 @@
 -- The lists of a device: the fixed pages, and what was written after the last barrier, in order.
-use Rattle.std.specs.Prelude.{List, [], cond, eqb, get_or, length, set, ℕ, ◌++◌, ◌+◌, ◌<◌, ◌∷◌, ◌≡◌, ◌⊎◌}
+use Rattle.std.specs.Prelude.{List, [], cond, eqb, get_or, length, set, ℕ, ◌++◌, ◌<◌, ◌∷◌, ◌≡◌, ◌⊎◌}
 use Rattle.engine_model.specs.World.{Has}
-use Rattle.engine_model.specs.Births.{since}
 
 pub record Disk : Type 0 where
   pub fixed : List (List ℕ)
@@ -45,4 +44,5 @@ after_flush d = record { fixed = overlaid d.fixed d.since; since = [] }
 -- a crash leaves at each page the fixed content or one that was written since
 pub record IsImageOf (d : Disk) (image : List (List ℕ)) : Type 0 where
   pub pages : length image ≡ length d.fixed
-  pub each : (page : ℕ) → page < length d.fixed → (get_or image page [] ≡ fixed_at d page) ⊎ Has (get_or image page []) (written_in d.since page)
+  pub each : (page : ℕ) → page < length d.fixed
+      → (get_or image page [] ≡ fixed_at d page) ⊎ Has (get_or image page []) (written_in d.since page)

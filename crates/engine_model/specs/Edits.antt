@@ -44,8 +44,7 @@ pub record Edits (lay : Layout) (top : ℕ) (w v : World) : Type 0 where
       → (cached_name lay v l ≡ p) ⊎ Queued v.queue l p 0
   -- count before print, or each count that the device may have is above 0 already
   pub print_gained : (p : ℕ) (print : List ℕ) → IsData lay p → cached_print lay v p ≡ Some print
-      → (cached_print lay w p ≡ Some print)
-      ⊎ ((v.live (lay.count_page p) (lay.print_page p) ≡ true) ⊎ ((c : List ℕ) → Possible w (lay.count_page p) c → 0 < lay.count_in c p))
+      → (cached_print lay w p ≡ Some print) ⊎ ((v.live (lay.count_page p) (lay.print_page p) ≡ true) ⊎ ((c : List ℕ) → Possible w (lay.count_page p) c → 0 < lay.count_in c p))
   -- print before release
   pub print_lost : (p : ℕ) (print : List ℕ) → IsData lay p → MayPrint lay w p print → cached_print lay w p ≡ Some print
       → (cached_print lay v p ≡ Some print) ⊎ (v.live (lay.print_page p) (lay.count_page p) ≡ true)
@@ -78,13 +77,15 @@ pub record Ordered (v : World) (a b : ℕ) : Type 0 where
 pub record ContentEdits (lay : Layout) (sound : Bool) (before after : ℕ → List (List ℕ)) (w v : World) : Type 0 where
   pub rest : CacheOnly lay w v
   pub dirty_fresh : (p : ℕ) → IsData lay p → v.dirty (lay.data_page p) ≡ true → (w.dirty (lay.data_page p) ≡ true) ⊎ Free lay w p
-  pub cached : (p : ℕ) → IsData lay p → (v.cached (lay.data_page p) ≡ w.cached (lay.data_page p)) ⊎ (Free lay w p × (v.dirty (lay.data_page p) ≡ true))
+  pub cached : (p : ℕ) → IsData lay p
+      → (v.cached (lay.data_page p) ≡ w.cached (lay.data_page p)) ⊎ (Free lay w p × (v.dirty (lay.data_page p) ≡ true))
   -- data before map, and data before print
   pub name_gained : (l p : ℕ) → l < lay.blocks → IsData lay p → cached_name lay v l ≡ p
       → (cached_name lay w l ≡ p) ⊎ Ordered v (lay.data_page p) (lay.map_page l)
   pub print_gained : (p : ℕ) (print : List ℕ) → IsData lay p → cached_print lay v p ≡ Some print
       → (cached_print lay w p ≡ Some print) ⊎ (Ordered v (lay.data_page p) (lay.print_page p) × (print ≡ lay.finger (v.cached (lay.data_page p))))
-  pub count_risen : (p : ℕ) → IsData lay p → 0 < cached_count lay v p → (0 < cached_count lay w p) ⊎ (v.dirty (lay.data_page p) ≡ true)
+  pub count_risen : (p : ℕ) → IsData lay p → 0 < cached_count lay v p
+      → (0 < cached_count lay w p) ⊎ (v.dirty (lay.data_page p) ≡ true)
   -- a block keeps its name and its list, or it holds the last of its list, which may be new
   pub blocks : (l : ℕ) → l < lay.blocks
       → ((cached_name lay v l ≡ cached_name lay w l) × (after l ≡ before l))

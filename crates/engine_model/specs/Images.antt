@@ -31,7 +31,8 @@ block_in lay image l = cond (eqb (lay.name_in (image (lay.map_page l)) l) 0) lay
 
 -- what a well-formed table page holds: names of data pages or 0, and counts up to the limit
 pub record Format (lay : Layout) (top : ℕ) : Type 0 where
-  pub names : (l : ℕ) (c : List ℕ) → l < lay.blocks → lay.well_formed (lay.map_page l) c ≡ true → (lay.name_in c l ≡ 0) ⊎ IsData lay (lay.name_in c l)
+  pub names : (l : ℕ) (c : List ℕ) → l < lay.blocks → lay.well_formed (lay.map_page l) c ≡ true
+      → (lay.name_in c l ≡ 0) ⊎ IsData lay (lay.name_in c l)
   pub counts : (p : ℕ) (c : List ℕ) → IsData lay p → lay.well_formed (lay.count_page p) c ≡ true → lay.count_in c p ≤ top
 
 -- no count of the image is above the limit
@@ -42,11 +43,13 @@ CountsBelow lay top image = (p : ℕ) → IsData lay p → lay.count_in (image (
 pub record CountsExact (lay : Layout) (image : ℕ → List ℕ) : Type 0 where
   pub counts : (p : ℕ) → IsData lay p
       → lay.count_in (image (lay.count_page p)) p ≡ count_below lay.blocks (λ l. eqb (lay.name_in (image (lay.map_page l)) l) p)
-  pub named : (p : ℕ) → IsData lay p → 0 < lay.count_in (image (lay.count_page p)) p → (print : List ℕ) × (lay.print_in (image (lay.print_page p)) p ≡ Some print)
-  pub unnamed : (p : ℕ) → IsData lay p → lay.count_in (image (lay.count_page p)) p ≡ 0 → lay.print_in (image (lay.print_page p)) p ≡ None
+  pub named : (p : ℕ) → IsData lay p → 0 < lay.count_in (image (lay.count_page p)) p
+      → (print : List ℕ) × (lay.print_in (image (lay.print_page p)) p ≡ Some print)
+  pub unnamed : (p : ℕ) → IsData lay p → lay.count_in (image (lay.count_page p)) p ≡ 0
+      → lay.print_in (image (lay.print_page p)) p ≡ None
 
 -- exact, and no two named pages have the same content
 pub record ImageTight (lay : Layout) (image : ℕ → List ℕ) : Type 0 where
   pub exact : CountsExact lay image
-  pub distinct : (p q : ℕ) → IsData lay p → IsData lay q → p ≢ q → 0 < lay.count_in (image (lay.count_page p)) p → 0 < lay.count_in (image (lay.count_page q)) q
-      → image (lay.data_page p) ≢ image (lay.data_page q)
+  pub distinct : (p q : ℕ) → IsData lay p → IsData lay q → p ≢ q → 0 < lay.count_in (image (lay.count_page p)) p
+      → 0 < lay.count_in (image (lay.count_page q)) q → image (lay.data_page p) ≢ image (lay.data_page q)

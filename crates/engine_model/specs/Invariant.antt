@@ -28,7 +28,8 @@ pub record ToldBirths (lay : Layout) (m n : Moment) : Type 0 where
   pub edits : List Edit
   pub calls : n.calls ≡ told edits m.calls
   pub dirty : AllDirty n.world edits
-  pub leads : (slot : Slot) → IsSlot lay slot → Leads lay slot edits (cached_value lay m.world slot) (cached_value lay n.world slot)
+  pub leads : (slot : Slot) → IsSlot lay slot
+      → Leads lay slot edits (cached_value lay m.world slot) (cached_value lay n.world slot)
 
 -- the pool is told of a fresh page, and of a count that became 0
 abbrev pub ToldTake : Layout → ℕ → Moment → Moment → Type 0

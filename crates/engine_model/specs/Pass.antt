@@ -1,12 +1,11 @@
 -- A pass over the queue, as a list of steps.
-use Rattle.std.specs.Prelude.{List, [], ℕ, ◌++◌, ◌+◌, ◌∷◌, ◌≡◌, ◌⊎◌}
+use Rattle.std.specs.Prelude.{List, [], ℕ, ◌++◌, ◌∷◌, ◌≡◌, ◌⊎◌}
 use Rattle.engine_model.specs.World.{Agree, Layout, Release}
 use Rattle.engine_model.specs.Invariant.{Moment, ToldBirths, ToldZero, known_at}
 use Rattle.engine_model.specs.DeviceSteps.{Same}
 use Rattle.engine_model.specs.Commands.{DataKept}
 use Rattle.engine_model.specs.Releases.{Applied, IsBlocked}
 use Rattle.engine_model.specs.Drops.{Dropped}
-use Rattle.engine_model.specs.Examples.{applied}
 
 abbrev pub Member : Release → List Release → Type 0
 Member r [] = ⊥

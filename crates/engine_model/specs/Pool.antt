@@ -1,5 +1,5 @@
 -- What a pool of data pages was told, and what it then knows of their counts.
-use Rattle.std.specs.Prelude.{Bool, List, [], cond, eqb, false, not, true, zero, ℕ, ◌&&◌, ◌<◌, ◌||◌, ◌∷◌, ◌≡◌, ◌⊎◌}
+use Rattle.std.specs.Prelude.{Bool, List, [], cond, eqb, false, not, true, ℕ, ◌&&◌, ◌<◌, ◌||◌, ◌∷◌, ◌≡◌, ◌⊎◌}
 use Rattle.engine_model.specs.World.{Layout, Possible, World}
 use Rattle.engine_model.specs.Entries.{IsData, cached_count, newest_count}
 use Rattle.engine_model.specs.Births.{told}

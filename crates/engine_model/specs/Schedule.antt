@@ -1,5 +1,5 @@
 -- Whole schedules: from one moment to the next, by every kind of step.
-use Rattle.std.specs.Prelude.{List, [], cond, eqb, false, ℕ, ◌++◌, ◌+◌, ◌<◌, ◌∷◌, ◌≡◌}
+use Rattle.std.specs.Prelude.{List, [], cond, eqb, false, ℕ, ◌++◌, ◌<◌, ◌∷◌, ◌≡◌}
 use Rattle.engine_model.specs.World.{Agree, Layout, Release}
 use Rattle.engine_model.specs.Entries.{IsData, cached_name}
 use Rattle.engine_model.specs.Contents.{Last}
@@ -13,35 +13,45 @@ use Rattle.engine_model.specs.Drops.{Dropped}
 use Rattle.engine_model.specs.Corrections.{Corrected}
 
 pub data Step (lay : Layout) (top : ℕ) (m n : Moment) : Type 0 where
-  BarrierDone : Barrier m.world n.world → Agree n.array m.array → n.calls ≡ Fixed ∷ m.calls → Agree n.pool (after_fixed m.pool) → Step lay top m n
+  BarrierDone : Barrier m.world n.world → Agree n.array m.array → n.calls ≡ Fixed ∷ m.calls → Agree n.pool (after_fixed m.pool)
+      → Step lay top m n
   WriteDone : (page : ℕ) → Taken m.world n.world page → MovesMarks lay m.world n.world page → Agree n.array m.array
-      → n.calls ≡ Written page ∷ (Tried page ∷ m.calls) → Agree n.pool (after_written lay page (after_tried lay page m.pool)) → Step lay top m n
+      → n.calls ≡ Written page ∷ (Tried page ∷ m.calls) → Agree n.pool (after_written lay page (after_tried lay page m.pool))
+      → Step lay top m n
   WriteTaken : (page : ℕ) → Taken m.world n.world page → KeepsMarks m.world n.world → Agree n.array m.array
       → n.calls ≡ Tried page ∷ m.calls → Agree n.pool (after_tried lay page m.pool) → Step lay top m n
-  WriteRefused : (page : ℕ) → Same m.world n.world → Agree n.array m.array → n.calls ≡ Tried page ∷ m.calls → Agree n.pool (after_tried lay page m.pool) → Step lay top m n
+  WriteRefused : (page : ℕ) → Same m.world n.world → Agree n.array m.array → n.calls ≡ Tried page ∷ m.calls
+      → Agree n.pool (after_tried lay page m.pool) → Step lay top m n
   -- a barrier that was refused, and a page that was fetched or forgotten
   Unchanged : Same m.world n.world → Agree n.array m.array → n.calls ≡ m.calls → Agree n.pool m.pool → Step lay top m n
-  ReleaseApplied : (r : Release) (before after : List Release) → Applied lay (known_at lay m) m.world n.world r before after → DataKept lay m.world n.world
-      → Agree n.array m.array → ToldBirths lay m n → ToldZero lay r.page m n → Step lay top m n
+  ReleaseApplied : (r : Release) (before after : List Release) → Applied lay (known_at lay m) m.world n.world r before after
+      → DataKept lay m.world n.world → Agree n.array m.array → ToldBirths lay m n → ToldZero lay r.page m n → Step lay top m n
   Discard : (l o : ℕ) → Discarded lay (known_at lay m) m.world n.world l o → DataKept lay m.world n.world
       → Gains m.array n.array l lay.zero_block → ToldBirths lay m n → Agree n.pool m.pool → Step lay top m n
   Write : (l o p : ℕ) (content : List ℕ) → Renamed lay (known_at lay m) top m.world n.world l o p
-      → PageContent lay (known_at lay m) m.world n.world l p content → Gains m.array n.array l content → ToldBirths lay m n → ToldTake lay p m n → Step lay top m n
+      → PageContent lay (known_at lay m) m.world n.world l p content → Gains m.array n.array l content → ToldBirths lay m n
+      → ToldTake lay p m n → Step lay top m n
   -- a write of what the block holds
-  WriteAgain : (l p : ℕ) → IsData lay p → cached_name lay m.world l ≡ p → Same m.world n.world → Gains m.array n.array l (m.world.cached (lay.data_page p))
-      → n.calls ≡ m.calls → Agree n.pool m.pool → Step lay top m n
+  WriteAgain : (l p : ℕ) → IsData lay p → cached_name lay m.world l ≡ p → Same m.world n.world
+      → Gains m.array n.array l (m.world.cached (lay.data_page p)) → n.calls ≡ m.calls → Agree n.pool m.pool → Step lay top m n
   -- a discard of a block with no name
-  DiscardAgain : (l : ℕ) → cached_name lay m.world l ≡ 0 → Same m.world n.world → Gains m.array n.array l lay.zero_block → n.calls ≡ m.calls → Agree n.pool m.pool → Step lay top m n
+  DiscardAgain : (l : ℕ) → cached_name lay m.world l ≡ 0 → Same m.world n.world → Gains m.array n.array l lay.zero_block
+      → n.calls ≡ m.calls → Agree n.pool m.pool → Step lay top m n
   -- the block takes the name of an equal page, or none where its page holds zeros, and its list stays
   Fold : (l o p : ℕ) → IsData lay o → Renamed lay (known_at lay m) top m.world n.world l o p
-      → PageContent lay (known_at lay m) m.world n.world l p (m.world.cached (lay.data_page o)) → Agree n.array m.array → ToldBirths lay m n → ToldTake lay p m n → Step lay top m n
-  FoldZero : (l o : ℕ) → IsData lay o → m.world.cached (lay.data_page o) ≡ lay.zero_block → Discarded lay (known_at lay m) m.world n.world l o → DataKept lay m.world n.world
-      → Agree n.array m.array → ToldBirths lay m n → Agree n.pool m.pool → Step lay top m n
-  DropData : (p : ℕ) → Dropped lay m.world n.world p → Agree n.array m.array → n.calls ≡ m.calls → Agree n.pool m.pool → Step lay top m n
-  Correct : (p : ℕ) → Corrected lay m.world n.world p → DataKept lay m.world n.world → Agree n.array m.array → ToldBirths lay m n → ToldZero lay p m n → Step lay top m n
+      → PageContent lay (known_at lay m) m.world n.world l p (m.world.cached (lay.data_page o)) → Agree n.array m.array
+      → ToldBirths lay m n → ToldTake lay p m n → Step lay top m n
+  FoldZero : (l o : ℕ) → IsData lay o → m.world.cached (lay.data_page o) ≡ lay.zero_block
+      → Discarded lay (known_at lay m) m.world n.world l o → DataKept lay m.world n.world → Agree n.array m.array
+      → ToldBirths lay m n → Agree n.pool m.pool → Step lay top m n
+  DropData : (p : ℕ) → Dropped lay m.world n.world p → Agree n.array m.array → n.calls ≡ m.calls → Agree n.pool m.pool
+      → Step lay top m n
+  Correct : (p : ℕ) → Corrected lay m.world n.world p → DataKept lay m.world n.world → Agree n.array m.array → ToldBirths lay m n
+      → ToldZero lay p m n → Step lay top m n
   -- no page is a node: each block keeps the last content of its list alone
-  FlushDone : ((a : ℕ) → (m.world.dirty a ≡ false) × (m.world.hung a ≡ false))
-      → Same m.world n.world → ((l : ℕ) → l < lay.blocks → (c : List ℕ) → Last (m.array l) c → n.array l ≡ c ∷ []) → n.calls ≡ m.calls → Agree n.pool m.pool → Step lay top m n
+  FlushDone : ((a : ℕ) → (m.world.dirty a ≡ false) × (m.world.hung a ≡ false)) → Same m.world n.world
+      → ((l : ℕ) → l < lay.blocks → (c : List ℕ) → Last (m.array l) c → n.array l ≡ c ∷ []) → n.calls ≡ m.calls
+      → Agree n.pool m.pool → Step lay top m n
 
 -- what the lists of a block gain in a step
 abbrev pub gained : {lay : Layout} {top : ℕ} {m n : Moment} → Step lay top m n → ℕ → List (List ℕ)

@@ -1,12 +1,11 @@
 -- The session in small by small steps: a block is written to the fresh page and discarded, and the page's print is cleared and its count lowered, with no write of a page between.
-use Rattle.std.specs.Prelude.{ℕ, List, [], ◌∷◌, cond, eqb}
-use Rattle.engine_model.specs.World.{Release}
+use Rattle.std.specs.Prelude.{List, [], ◌∷◌}
 use Rattle.engine_model.specs.Births.{Change, Name, Print}
 use Rattle.engine_model.specs.Pool.{after_take, after_zeroed}
 use Rattle.engine_model.specs.Invariant.{Moment, known_at}
 use Rattle.engine_model.specs.SmallSteps.{lowered, named, ordered, placed, put, touched}
 use Rattle.engine_model.specs.Examples.{printed, written_array}
-use Rattle.engine_model.specs.Session.{mounted, twice_array, unborn_release}
+use Rattle.engine_model.specs.Session.{mounted, twice_array}
 
 -- the data page gets its content, and the table pages are dirty
 abbrev pub content_placed : Moment

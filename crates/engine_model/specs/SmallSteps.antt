@@ -1,5 +1,5 @@
 -- The small steps into which a command falls, as functions of the plain state, and what each of them asks. No device call lies between those of one command.
-use Rattle.std.specs.Prelude.{◌≡◌, ◌≢◌, ◌⊎◌, ◌+◌, ◌<◌, ◌&&◌, ◌||◌, ◌++◌, ℕ, List, [], ◌∷◌, Bool, true, cond, eqb, Option, Some, None}
+use Rattle.std.specs.Prelude.{◌≡◌, ◌≢◌, ◌⊎◌, ◌+◌, ◌<◌, ◌≤◌, not, ◌&&◌, ◌||◌, ◌++◌, ℕ, List, [], ◌∷◌, true, cond, eqb, Option, Some, None}
 use Rattle.engine_model.specs.World.{Agree, Layout, Possible, Release, World, queued}
 use Rattle.engine_model.specs.Entries.{IsData, cached_count, cached_name, cached_names, cached_print}
 use Rattle.engine_model.specs.Contents.{Last}
@@ -115,3 +115,20 @@ pub record CanLower (lay : Layout) (w : World) (r : Release) (before after : Lis
   pub no_print : n ≡ 0 → cached_print lay w r.page ≡ None
   pub from_map : r.stage ≡ 0 → w.live (lay.map_page r.block) (lay.count_page r.page) ≡ true
   pub from_hung_map : r.stage ≡ 1 → w.barred (lay.map_page r.block) (lay.count_page r.page) ≡ true
+
+-- The count of p is lowered to n, by waste alone: what is left covers its names and its queued releases. A page with no count has no print.
+pub record CanRecount (lay : Layout) (w : World) (p : ℕ) (c : List ℕ) (n : ℕ) : Type 0 where
+  pub is_data : IsData lay p
+  pub sets : SetsCount lay (w.cached (lay.count_page p)) c p n
+  pub dirty : w.dirty (lay.count_page p) ≡ true
+  pub less : n ≤ cached_count lay w p
+  pub enough : cached_names lay w p + queued w.queue p ≤ n
+  pub no_print : n ≡ 0 → cached_print lay w p ≡ None
+
+-- a dirty data page is given up, with the edges from it
+abbrev pub given_up : ℕ → World → World
+given_up page w = record w {
+  cached = λ a. cond (eqb a page) (w.newest page) (w.cached a);
+  dirty = λ a. w.dirty a && not (eqb a page);
+  live = λ a b. w.live a b && not (eqb a page);
+}

@@ -4,7 +4,6 @@ use Rattle.engine_model.specs.World.{Layout, World, queued}
 use Rattle.engine_model.specs.Entries.{IsData, cached_count, cached_names, cached_print}
 use Rattle.engine_model.specs.Invariant.{Moment}
 use Rattle.engine_model.specs.Schedule.{Fold, Step, Write}
-use Rattle.engine_model.specs.Examples.{printed}
 
 pub record IsTight (lay : Layout) (w : World) : Type 0 where
   pub owed : (p : ℕ) → IsData lay p → cached_count lay w p ≡ cached_names lay w p + queued w.queue p

@@ -40,12 +40,15 @@ pub record Switching (lay : Layout) (next : List ℕ) (was w : World) : Type 0 w
   pub live : (a b : ℕ) → w.live a b ≡ false
   pub barred : (a b : ℕ) → w.barred a b ≡ false
   pub others : (a : ℕ) → a ≢ 0 → (IsPrint lay a → ⊥) → Untouched was w a
-  pub prints : (p : ℕ) (c : List ℕ) → IsData lay p → Possible w (lay.print_page p) c → (c ≡ was.cached (lay.print_page p)) ⊎ NoPrints lay (lay.print_page p) c
-  pub cached_prints : (p : ℕ) → IsData lay p → (w.cached (lay.print_page p) ≡ was.cached (lay.print_page p)) ⊎ NoPrints lay (lay.print_page p) (w.cached (lay.print_page p))
+  pub prints : (p : ℕ) (c : List ℕ) → IsData lay p → Possible w (lay.print_page p) c
+      → (c ≡ was.cached (lay.print_page p)) ⊎ NoPrints lay (lay.print_page p) c
+  pub cached_prints : (p : ℕ) → IsData lay p
+      → (w.cached (lay.print_page p) ≡ was.cached (lay.print_page p)) ⊎ NoPrints lay (lay.print_page p) (w.cached (lay.print_page p))
   -- another first page only where every print page is cleared
   pub first_page : (c : List ℕ) → Possible w 0 c → (c ≡ was.newest 0) ⊎ ((c ≡ next) × AllCleared lay w)
   pub cached_first : w.dirty 0 ≡ true → (w.cached 0 ≡ next) × AllCleared lay w
-  pub settled : (a : ℕ) (c : List ℕ) → (a ≡ 0) ⊎ IsPrint lay a → w.dirty a ≡ false → w.hung a ≡ false → Possible w a c → c ≡ w.cached a
+  pub settled : (a : ℕ) (c : List ℕ) → (a ≡ 0) ⊎ IsPrint lay a → w.dirty a ≡ false → w.hung a ≡ false → Possible w a c
+      → c ≡ w.cached a
   pub clean : (a : ℕ) → (a ≡ 0) ⊎ IsPrint lay a → w.dirty a ≡ false → w.newest a ≡ w.cached a
 
 -- one page gets other content and is dirty
@@ -83,14 +86,19 @@ pub record SwitchStart (lay : Layout) (top : ℕ) (sound : Bool) (m : Moment) : 
   pub clean : (a : ℕ) → (m.world.dirty a ≡ false) × (m.world.hung a ≡ false)
 
 pub data SwitchStep (lay : Layout) (next : List ℕ) (was m n : Moment) : Type 0 where
-  Clear : (page : ℕ) → Clears lay was.world m.world n.world page → Agree n.array m.array → n.calls ≡ m.calls → Agree n.pool m.pool → SwitchStep lay next was m n
-  Stamp : Stamps lay next m.world n.world → Agree n.array m.array → n.calls ≡ m.calls → Agree n.pool m.pool → SwitchStep lay next was m n
-  Fix : Barrier m.world n.world → Agree n.array m.array → n.calls ≡ Fixed ∷ m.calls → Agree n.pool (after_fixed m.pool) → SwitchStep lay next was m n
+  Clear : (page : ℕ) → Clears lay was.world m.world n.world page → Agree n.array m.array → n.calls ≡ m.calls → Agree n.pool m.pool
+      → SwitchStep lay next was m n
+  Stamp : Stamps lay next m.world n.world → Agree n.array m.array → n.calls ≡ m.calls → Agree n.pool m.pool
+      → SwitchStep lay next was m n
+  Fix : Barrier m.world n.world → Agree n.array m.array → n.calls ≡ Fixed ∷ m.calls → Agree n.pool (after_fixed m.pool)
+      → SwitchStep lay next was m n
   PageDone : (page : ℕ) → Taken m.world n.world page → MovesMarks lay m.world n.world page → Agree n.array m.array
-      → n.calls ≡ Written page ∷ (Tried page ∷ m.calls) → Agree n.pool (after_written lay page (after_tried lay page m.pool)) → SwitchStep lay next was m n
+      → n.calls ≡ Written page ∷ (Tried page ∷ m.calls) → Agree n.pool (after_written lay page (after_tried lay page m.pool))
+      → SwitchStep lay next was m n
   PageTaken : (page : ℕ) → Taken m.world n.world page → KeepsMarks m.world n.world → Agree n.array m.array
       → n.calls ≡ Tried page ∷ m.calls → Agree n.pool (after_tried lay page m.pool) → SwitchStep lay next was m n
-  PageRefused : (page : ℕ) → Same m.world n.world → Agree n.array m.array → n.calls ≡ Tried page ∷ m.calls → Agree n.pool (after_tried lay page m.pool) → SwitchStep lay next was m n
+  PageRefused : (page : ℕ) → Same m.world n.world → Agree n.array m.array → n.calls ≡ Tried page ∷ m.calls
+      → Agree n.pool (after_tried lay page m.pool) → SwitchStep lay next was m n
   Idle : Same m.world n.world → Agree n.array m.array → n.calls ≡ m.calls → Agree n.pool m.pool → SwitchStep lay next was m n
 
 abbrev pub SwitchRun : Layout → List ℕ → Moment → Moment → List Moment → Type 0

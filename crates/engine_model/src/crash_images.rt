@@ -9,7 +9,8 @@ ghost use Rattle.engine_model.specs.World.{Layout, World};
 
 /// In every image counts cover names, prints stand on counts, each block reads a content of its list, and prints are true where the session began sound.
 pub fn images()
-    ensures counts { (lay : Layout) (top : ℕ) (w : World) (image : ℕ → List ℕ) → CountsInvariant lay top w → CrashImage w image → CountsFit lay image }
+    ensures counts { (lay : Layout) (top : ℕ) (w : World) (image : ℕ → List ℕ) → CountsInvariant lay top w
+        → CrashImage w image → CountsFit lay image }
     ensures contents { (lay : Layout) (sound : Bool) (array : ℕ → List (List ℕ)) (w : World) (image : ℕ → List ℕ)
         → ContentsInvariant lay sound array w → CrashImage w image → ContentsFit lay sound image array }
     ensures whole { (lay : Layout) (top : ℕ) (sound : Bool) (m : Moment) → EngineInvariant lay top sound m

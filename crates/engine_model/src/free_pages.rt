@@ -10,8 +10,12 @@ ghost use Rattle.engine_model.specs.World.{Layout, World};
 
 /// What the pool gives is free, and as long as no write of a count page failed it gives every page that is free.
 pub fn free()
-    ensures free { (lay : Layout) (w : World) (told : Told) (p : ℕ) → PoolKnows lay w told p → is_free told ≡ true → Free lay w p }
-    ensures lowest { (lay : Layout) (w : World) (pool : ℕ → Told) (p : ℕ) → ((q : ℕ) → IsData lay q → PoolKnows lay w (pool q) q) → IsLowest lay pool p → Free lay w p }
-    ensures every_free { (lay : Layout) (w : World) (told : Told) (p : ℕ) → PoolKnows lay w told p → PoolExact lay w told p → Free lay w p → is_free told ≡ true }
-    ensures whole { (lay : Layout) (top : ℕ) (sound : Bool) (m : Moment) → EngineInvariant lay top sound m → (p : ℕ) → IsData lay p → is_free (m.pool p) ≡ true → Free lay m.world p }
+    ensures free { (lay : Layout) (w : World) (told : Told) (p : ℕ) → PoolKnows lay w told p → is_free told ≡ true
+        → Free lay w p }
+    ensures lowest { (lay : Layout) (w : World) (pool : ℕ → Told) (p : ℕ)
+        → ((q : ℕ) → IsData lay q → PoolKnows lay w (pool q) q) → IsLowest lay pool p → Free lay w p }
+    ensures every_free { (lay : Layout) (w : World) (told : Told) (p : ℕ) → PoolKnows lay w told p
+        → PoolExact lay w told p → Free lay w p → is_free told ≡ true }
+    ensures whole { (lay : Layout) (top : ℕ) (sound : Bool) (m : Moment) → EngineInvariant lay top sound m → (p : ℕ)
+        → IsData lay p → is_free (m.pool p) ≡ true → Free lay m.world p }
 {}

@@ -11,5 +11,6 @@ pub fn added_facts_are_needed()
     ensures overwritten { CountsInvariant small 5 overwritten × WeakContents small false discarded_array overwritten
         × Taken overwritten after_overwrite 4 × MovesMarks small overwritten after_overwrite 4
         × CrashImage after_overwrite torn_image × (ContentsFit small false torn_image discarded_array → ⊥) }
-    ensures stale { CountsInvariant small 5 stale × WeakContents small false stale_array stale × (WeakContents small false stale_flushed stale → ⊥) }
+    ensures stale { CountsInvariant small 5 stale × WeakContents small false stale_array stale
+        × (WeakContents small false stale_flushed stale → ⊥) }
 {}

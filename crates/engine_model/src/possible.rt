@@ -20,10 +20,14 @@ ghost use Rattle.engine_model.specs.VersionSwitch.{SwitchRun, SwitchStart};
 
 /// The edits of a write to a fresh page, of an applied release that takes a print away, and of a fold; so edits in general, and a touched page.
 pub fn edits_are_possible()
-    ensures written { Tells printed empty (asked true) × Renamed printed (asked true) 5 empty written 0 0 1 × PageContent printed (asked true) empty written 0 1 (7 ∷ []) × Gains empty_array written_array 0 (7 ∷ []) }
-    ensures applied { Tells printed waiting (asked false) × Applied printed (asked false) waiting applied dropped_release [] [] }
-    ensures folded { Renamed pair (asked false) 5 equal_pages folded 1 2 1 × PageContent pair (asked false) equal_pages folded 1 1 (equal_pages.cached (pair.data_page 2)) }
-    ensures general { Edits printed 5 empty written × ContentEdits printed true empty_array written_array empty written }
+    ensures written { Tells printed empty (asked true) × Renamed printed (asked true) 5 empty written 0 0 1
+        × PageContent printed (asked true) empty written 0 1 (7 ∷ []) × Gains empty_array written_array 0 (7 ∷ []) }
+    ensures applied { Tells printed waiting (asked false)
+        × Applied printed (asked false) waiting applied dropped_release [] [] }
+    ensures folded { Renamed pair (asked false) 5 equal_pages folded 1 2 1
+        × PageContent pair (asked false) equal_pages folded 1 1 (equal_pages.cached (pair.data_page 2)) }
+    ensures general { Edits printed 5 empty written
+        × ContentEdits printed true empty_array written_array empty written }
     ensures grown { Grown printed 5 empty (touched 1 empty) × ToldPool printed mounted content_placed }
 {}
 

@@ -11,7 +11,9 @@ ghost use Rattle.engine_model.specs.World.{Layout, Release, World};
 /// An applied release keeps the invariant.
 pub fn released()
     ensures counts { (lay : Layout) (known : Known) (top : ℕ) (w v : World) (r : Release) (before after : List Release)
-        → CountsInvariant lay top w → Tells lay w known → Applied lay known w v r before after → CountsInvariant lay top v }
+        → CountsInvariant lay top w → Tells lay w known → Applied lay known w v r before after
+        → CountsInvariant lay top v }
     ensures contents { (lay : Layout) (known : Known) (top : ℕ) (sound : Bool) (array : ℕ → List (List ℕ)) (w v : World) (r : Release) (before after : List Release)
-        → Tells lay w known → Applied lay known w v r before after → DataKept lay w v → CountsInvariant lay top w → ContentsInvariant lay sound array w → ContentsInvariant lay sound array v }
+        → Tells lay w known → Applied lay known w v r before after → DataKept lay w v → CountsInvariant lay top w
+        → ContentsInvariant lay sound array w → ContentsInvariant lay sound array v }
 {}

@@ -10,11 +10,13 @@ ghost use Rattle.engine_model.specs.World.{Layout, Possible};
 
 /// Each image within is fit in the version of its first page, and the end keeps the engine invariant in the other version.
 pub fn version_switch()
-    ensures images { (lay : Layout) (top : ℕ) (sound : Bool) (next : List ℕ) (was : Moment) → Apart lay → SwitchStart lay top sound was → (finger : List ℕ → List ℕ)
-        → next ≢ was.world.newest 0 → (ns : List Moment) → SwitchRun lay next was was ns
+    ensures images { (lay : Layout) (top : ℕ) (sound : Bool) (next : List ℕ) (was : Moment) → Apart lay
+        → SwitchStart lay top sound was → (finger : List ℕ → List ℕ) → next ≢ was.world.newest 0 → (ns : List Moment)
+        → SwitchRun lay next was was ns
         → Each (λ n. (image : ℕ → List ℕ) → CrashImage n.world image → SwitchImage lay sound next was.world was.array finger image) ns }
-    ensures ends { (lay : Layout) (top : ℕ) (sound : Bool) (next : List ℕ) (was : Moment) → Apart lay → SwitchStart lay top sound was → (finger : List ℕ → List ℕ)
-        → next ≢ was.world.newest 0 → (ns : List Moment) → SwitchRun lay next was was ns
-        → NoNode (last_of was ns) → (last_of was ns).world.cached 0 ≡ next
-        → EngineInvariant (with_finger lay finger) top true (last_of was ns) × ((c : List ℕ) → Possible (last_of was ns).world 0 c → c ≡ next) }
+    ensures ends { (lay : Layout) (top : ℕ) (sound : Bool) (next : List ℕ) (was : Moment) → Apart lay
+        → SwitchStart lay top sound was → (finger : List ℕ → List ℕ) → next ≢ was.world.newest 0 → (ns : List Moment)
+        → SwitchRun lay next was was ns → NoNode (last_of was ns) → (last_of was ns).world.cached 0 ≡ next
+        → EngineInvariant (with_finger lay finger) top true (last_of was ns)
+        × ((c : List ℕ) → Possible (last_of was ns).world 0 c → c ≡ next) }
 {}
