@@ -5,11 +5,11 @@ use Rattle.engine_model.specs.Entries.{EdgeKind}
 use Rattle.engine_model.specs.Paths.{Closes}
 use Rattle.engine_model.specs.Commands.{Gains}
 use Rattle.engine_model.specs.Invariant.{known_at}
-use Rattle.engine_model.specs.SmallSteps.{CanClear, CanLower, CanName, CanPrint, CanRaise, SetsCount, SetsName}
-use Rattle.engine_model.specs.SmallRuns.{ClearPrint, Lower, Order, Place, Raise, SetName, SetPrint, SmallRun, Touch}
+use Rattle.engine_model.specs.SmallSteps.{CanClear, CanLower, CanName, CanPrint, CanRaise, CanRecount, SetsCount, SetsName}
+use Rattle.engine_model.specs.SmallRuns.{ClearPrint, GiveUp, Lower, Order, Place, Raise, Recount, SetName, SetPrint, SmallRun, Touch}
 use Rattle.engine_model.specs.Examples.{printed, written_array}
 use Rattle.engine_model.specs.Session.{mounted, twice_array, unborn_release}
-use Rattle.engine_model.specs.SmallSession.{count_before_map, count_before_print, count_lowered, count_raised, data_before_map, data_before_print, name_gone, name_set, print_cleared, print_set, print_touched, small_moments}
+use Rattle.engine_model.specs.SmallSession.{count_before_map, count_before_print, count_lowered, count_raised, count_wasted, data_before_map, data_before_print, name_gone, name_set, print_cleared, print_set, print_touched, small_moments, waste_gone}
 use Rattle.engine_model.proofs.Examples.{empty_free, is_data, no_other, no_zero}
 use Rattle.engine_model.proofs.Graphs.{way_begins}
 
@@ -89,6 +89,12 @@ can_lower = record {
   from_hung_map = λ e. absurd (omega (arith, e));
 }
 
+can_waste : CanRaise printed 5 count_lowered.world 1 (1 ∷ [])
+can_waste = record { is_data = is_data; sets = sets_count (0 ∷ []) 1; below_top = omega arith; dirty = refl; counted_or_fresh = inr refl }
+
+can_recount : CanRecount printed count_wasted.world 1 (0 ∷ []) 0
+can_recount = record { is_data = is_data; sets = sets_count (1 ∷ []) 0; dirty = refl; less = omega arith; enough = omega arith; no_print = λ z. refl }
+
 gains : (before after : ℕ → List (List ℕ)) (c : List ℕ) → after 0 ≡ before 0 ++ c ∷ [] → ((k : ℕ) → k ≢ 0 → after k ≡ before k) → Gains before after 0 c
 gains before after c here other = record { here = here; other = other }
 
@@ -119,7 +125,13 @@ small_run = (
                         inr (SetName 0 1 0 (0 ∷ []) twice_array can_unname (inl (gains written_array twice_array (0 ∷ []) refl (λ k ne. rw (ne_eqb k 0 ne)))) refl),
                         (
                           inr (ClearPrint 1 (0 ∷ []) (7 ∷ []) can_clear refl),
-                          (inr (Lower unborn_release [] [] (0 ∷ []) 0 count_lowered.pool can_lower refl (inl (refl, (λ q. refl)))), tt),
+                          (
+                            inr (Lower unborn_release [] [] (0 ∷ []) 0 count_lowered.pool can_lower refl (inl (refl, (λ q. refl)))),
+                            (
+                              inr (Raise 1 (1 ∷ []) count_wasted.pool can_waste refl (inl (refl, (λ q. refl)))),
+                              (inr (Recount 1 (0 ∷ []) 0 waste_gone.pool can_recount refl (inl (refl, (λ q. refl)))), (inr (GiveUp 1 is_data refl refl), tt)),
+                            ),
+                          ),
                         ),
                       ),
                     ),

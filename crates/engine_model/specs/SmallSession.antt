@@ -3,7 +3,7 @@ use Rattle.std.specs.Prelude.{List, [], ◌∷◌}
 use Rattle.engine_model.specs.Births.{Change, Name, Print}
 use Rattle.engine_model.specs.Pool.{after_take, after_zeroed}
 use Rattle.engine_model.specs.Invariant.{Moment, known_at}
-use Rattle.engine_model.specs.SmallSteps.{lowered, named, ordered, placed, put, touched}
+use Rattle.engine_model.specs.SmallSteps.{given_up, lowered, named, ordered, placed, put, touched}
 use Rattle.engine_model.specs.Examples.{printed, written_array}
 use Rattle.engine_model.specs.Session.{mounted, twice_array}
 
@@ -54,7 +54,18 @@ print_cleared = record name_gone { world = put 3 (0 ∷ []) name_gone.world; cal
 abbrev pub count_lowered : Moment
 count_lowered = record print_cleared { world = lowered 2 (0 ∷ []) [] print_cleared.world; pool = after_zeroed 1 print_cleared.pool }
 
+-- a count is raised and left as waste, which goes; and the data page is given up
+abbrev pub count_wasted : Moment
+count_wasted = record count_lowered { world = put 2 (1 ∷ []) count_lowered.world; pool = after_take 1 count_lowered.pool }
+
+abbrev pub waste_gone : Moment
+waste_gone = record count_wasted { world = put 2 (0 ∷ []) count_wasted.world; pool = after_zeroed 1 count_wasted.pool }
+
+abbrev pub content_given_up : Moment
+content_given_up = record waste_gone { world = given_up 4 waste_gone.world }
+
 abbrev pub small_moments : List Moment
 small_moments =
     content_placed ∷ (map_touched ∷ (count_touched ∷ (print_touched ∷ (count_raised ∷ (data_before_map ∷ (count_before_map ∷ (data_before_print ∷ (count_before_print
-    ∷ (print_set ∷ (name_set ∷ (name_gone ∷ (print_cleared ∷ (count_lowered ∷ [])))))))))))))
+    ∷ (print_set ∷ (name_set ∷ (name_gone ∷ (print_cleared ∷ (count_lowered
+    ∷ (count_wasted ∷ (waste_gone ∷ (content_given_up ∷ []))))))))))))))))
