@@ -17,6 +17,7 @@ pub mod Dropped
 pub mod AtRest
 pub mod ReleasedContents
 pub mod Disks
+pub mod OverDisks
 pub mod Counterexamples
 pub mod Same
 pub mod Pool

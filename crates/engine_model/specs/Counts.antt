@@ -26,7 +26,7 @@ NearPrinted lay w p print =
     MayPrint lay w p print
     ⊎ ((cached_print lay w p ≡ Some print) × (w.live (lay.count_page p) (lay.print_page p) ≡ false))
 
--- no cycle of Live edges; the ends of edges are nodes of the kinds above; a table page that is no node stands as it is cached
+-- no cycle of Live edges; the ends of edges are nodes; a table page that is no node stands as it is cached, and one that is not dirty has its newest content cached
 pub record MarksAndEdges (lay : Layout) (w : World) : Type 0 where
   pub acyclic : IsAcyclic w.live
   pub live_before : (a b : ℕ) → w.live a b ≡ true → w.dirty a ≡ true
@@ -37,7 +37,7 @@ pub record MarksAndEdges (lay : Layout) (w : World) : Type 0 where
       → c ≡ w.cached page
   pub clean : (page : ℕ) → IsTable lay page → w.dirty page ≡ false → w.newest page ≡ w.cached page
 
--- an edge leads from a data or count page to a map or print page, or from one of these to a count page: so none leads to a data page
+-- each edge is of an allowed kind, so none leads to a data page
 abbrev pub EdgeKinds : Layout → World → Type 0
 EdgeKinds lay w = (a b : ℕ) → HasEdge w a b → EdgeKind lay a b
 

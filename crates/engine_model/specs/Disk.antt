@@ -1,6 +1,6 @@
 -- The lists of a device: the fixed pages, and what was written after the last barrier, in order.
 use Rattle.std.specs.Prelude.{List, [], cond, eqb, get_or, length, set, ℕ, ◌++◌, ◌<◌, ◌∷◌, ◌≡◌, ◌⊎◌}
-use Rattle.engine_model.specs.World.{Has}
+use Rattle.engine_model.specs.World.{Has, World}
 
 pub record Disk : Type 0 where
   pub fixed : List (List ℕ)
@@ -46,3 +46,8 @@ pub record IsImageOf (d : Disk) (image : List (List ℕ)) : Type 0 where
   pub pages : length image ≡ length d.fixed
   pub each : (page : ℕ) → page < length d.fixed
       → (get_or image page [] ≡ fixed_at d page) ⊎ Has (get_or image page []) (written_in d.since page)
+
+-- the pages of the plain state are those of the device
+pub record IsOver (d : Disk) (w : World) : Type 0 where
+  pub newest : (page : ℕ) → w.newest page ≡ newest_on d page
+  pub older : (page : ℕ) → w.older page ≡ older_on d page

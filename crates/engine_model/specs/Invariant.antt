@@ -8,7 +8,7 @@ use Rattle.engine_model.specs.Known.{Known}
 use Rattle.engine_model.specs.Births.{AllDirty, BirthKnown, Call, Edit, IsSlot, Leads, Name, Print, Slot, cached_value, is_unborn, told}
 use Rattle.engine_model.specs.Pool.{PoolKnows, Told, after_take, after_zeroed, is_free}
 
--- a state, the contents that each block may read, and what birth_marks and the pool were told
+-- the array has for each block the contents that may be read of it after a crash, the last one at the end; the calls have the latest first
 pub record Moment : Type 0 where
   pub world : World
   pub array : ℕ → List (List ℕ)

@@ -18,13 +18,15 @@ pub record Layout : Type 0 where
   pub zero_block : List ℕ
   pub finger : List ℕ → List ℕ
 
--- a decrement that is owed to a data page, since a block dropped its name
+-- A decrement that is owed to a data page, since a block dropped its name. At stage 0 the map page was not written since, at stage 1 it was written,
+-- at stage 2 a barrier came after, and at stage 3 the name was unborn when it was dropped.
 pub record Release : Type 0 where
   pub block : ℕ
   pub page : ℕ
   pub stage : ℕ
 
--- the device, the cache, the marks, the edges and the queue
+-- The device, the cache, the marks, the edges and the queue. A dirty page was edited since its last successful write, a hung one was written and is not covered by a barrier.
+-- An edge from a to b holds back the write of b: a Live one until a is written and a barrier comes after, a Barrier edge (barred) until a barrier comes.
 pub record World : Type 0 where
   -- of each page what a read gives, and what a crash may leave in its place
   pub newest : ℕ → List ℕ

@@ -4,12 +4,14 @@ ghost use Rattle.std.specs.Prelude.{◌≡◌, ◌≢◌, ◌⊎◌, ◌↔◌, 
 ghost use Rattle.engine_model.specs.Bytes.{layout_of, print_entry, with_bytes, with_number};
 ghost use Rattle.engine_model.specs.Counts.{Covered};
 ghost use Rattle.engine_model.specs.CoveredCount.{is_covered};
-ghost use Rattle.engine_model.specs.Disk.{Disk, InRange, IsImageOf, after_flush, after_write, newest_on, older_on};
+ghost use Rattle.engine_model.specs.DeviceSteps.{IsReady, Taken};
+ghost use Rattle.engine_model.specs.Disk.{Disk, InRange, IsImageOf, IsOver, after_flush, after_write, newest_on, older_on};
 ghost use Rattle.engine_model.specs.EdgeList.{Edge, after_add, after_barrier, after_drop, after_wrote, barred_in, live_in};
 ghost use Rattle.engine_model.specs.Entries.{Apart, IsData};
+ghost use Rattle.engine_model.specs.Images.{CrashImage};
 ghost use Rattle.engine_model.specs.Paths.{Closes, IsAcyclic};
 ghost use Rattle.engine_model.specs.SmallSteps.{SetsCount, SetsName, SetsPrint};
-ghost use Rattle.engine_model.specs.World.{AtMost, Has, Layout, World, count_below};
+ghost use Rattle.engine_model.specs.World.{AtMost, Has, Layout, Possible, World, count_below};
 
 /// What a read gives and what a crash may leave, over the lists of a device.
 pub fn disk_lists()
@@ -24,6 +26,17 @@ pub fn disk_lists()
         → Has x (older_on (after_flush d) page) → x ≡ newest_on d page }
     ensures image { (d : Disk) (image : List (List ℕ)) (page : ℕ) → IsImageOf d image
         → Has (get_or image page []) (older_on d page) }
+{}
+
+/// A write and a barrier on the lists are those of the plain state over them, and an image of the lists is one of the state.
+pub fn disk_steps()
+    ensures taken { (d : Disk) (w v : World) (page : ℕ) → IsOver d w → IsOver (after_write d page (w.cached page)) v
+        → IsReady w page → ((other : ℕ) → v.cached other ≡ w.cached other) → Taken w v page }
+    ensures fixed { (d : Disk) (w v : World) (page : ℕ) → IsOver d w → IsOver (after_flush d) v
+        → InRange (length d.fixed) d.since
+        → (v.newest page ≡ w.newest page) × ((c : List ℕ) → Possible v page c → c ≡ w.newest page) }
+    ensures image { (d : Disk) (w : World) (image : List (List ℕ)) → IsOver d w → IsImageOf d image
+        → CrashImage w (λ page. get_or image page []) }
 {}
 
 /// The edges of a list after each call of a graph, and that no edge less and no edge that closes nothing makes a cycle.
