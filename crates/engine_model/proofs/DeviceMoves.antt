@@ -8,6 +8,7 @@ use Rattle.engine_model.specs.Pool.{after_fixed, after_tried, after_written}
 use Rattle.engine_model.specs.DeviceSteps.{Barrier, IsReady, KeepsMarks, MovesMarks, Taken, barrier_made, page_taken, page_written}
 use Rattle.engine_model.specs.Invariant.{EngineInvariant, Moment}
 use Rattle.engine_model.specs.Schedule.{BarrierDone, WriteDone, WriteTaken}
+use Rattle.engine_model.proofs.Lasts.{has_parts}
 use Rattle.engine_model.proofs.Schedule.{step_keeps}
 
 pub barrier_made_is : (w : World) → Barrier w (barrier_made w)
@@ -22,11 +23,6 @@ barrier_made_is w = record {
   queue = refl;
 }
 
-has_append : (xs ys : List (List ℕ)) (c : List ℕ) → Has c (xs ++ ys) → Has c xs ⊎ Has c ys
-has_append [] ys c h = inr h
-has_append (x ∷ xs) ys c (inl e) = inl (inl e)
-has_append (x ∷ xs) ys c (inr h) = elim (has_append xs ys c h) [ inl a ↦ inl (inr a) | inr b ↦ inr b ]
-
 pub page_taken_is : (w : World) (page : ℕ) → IsReady w page → Taken w (page_taken page w) page
 page_taken_is w page ready = record {
   was_dirty = ready.dirty;
@@ -37,14 +33,14 @@ page_taken_is w page ready = record {
   possible = λ other c q. elim (cases_eq other page) [
     | inl e ↦ elim q [
       | inl n ↦ inr (e, n ∙ ap (λ b. cond b (w.cached page) (w.newest other)) (eq-eqb other page e))
-      | inr h ↦ elim (has_append (w.older other) (cond (eqb other page) (w.cached page ∷ []) []) c h) [
+      | inr h ↦ elim (has_parts c (w.older other) (cond (eqb other page) (w.cached page ∷ []) []) h) [
         | inl was ↦ inl (inr was)
         | inr new ↦ inr (e, one c (subst (λ b. Has c (cond b (w.cached page ∷ []) [])) (eq-eqb other page e) new))
       ]
     ]
     | inr ne ↦ elim q [
       | inl n ↦ inl (inl (n ∙ ap (λ b. cond b (w.cached page) (w.newest other)) (ne_eqb other page ne)))
-      | inr h ↦ elim (has_append (w.older other) (cond (eqb other page) (w.cached page ∷ []) []) c h) [
+      | inr h ↦ elim (has_parts c (w.older other) (cond (eqb other page) (w.cached page ∷ []) []) h) [
         | inl was ↦ inl (inr was)
         | inr new ↦ absurd (subst (λ b. Has c (cond b (w.cached page ∷ []) [])) (ne_eqb other page ne) new)
       ]

@@ -7,7 +7,7 @@ use Rattle.engine_model.specs.Paths.{Closes}
 use Rattle.engine_model.specs.Edits.{CacheOnly}
 use Rattle.engine_model.specs.Commands.{Gains, Mandatory, Renamed, PageContent}
 use Rattle.engine_model.specs.Releases.{NeededEdge, Applied}
-use Rattle.engine_model.proofs.Graphs.{way_begins}
+use Rattle.engine_model.proofs.Graphs.{begins_none}
 use Rattle.engine_model.specs.Examples.{printed, asked, empty, written, empty_array, written_array, dropped_release, waiting, applied}
 
 pub tables : (page : ℕ) → IsTable printed page → (page ≡ 1) ⊎ ((page ≡ 2) ⊎ (page ≡ 3))
@@ -34,8 +34,7 @@ pub is_data : IsData printed 1
 is_data = omega arith
 
 no_way : (a b : ℕ) → (a ≡ b → ⊥) → Closes empty.live a b → ⊥
-no_way a b ne (inl e) = ne e
-no_way a b ne (inr way) = true≢false (sym (way_begins way).1)
+no_way a b ne = begins_none empty.live a b ne (λ c. refl)
 
 write_edges : (a b : ℕ) → written.live a b ≡ true → Mandatory printed empty 0 1 a b
 write_edges a b h = let q = and_parts (eqb a 2 || eqb a 4) (eqb b 1 || eqb b 3) h in (
@@ -124,8 +123,7 @@ applied_ends a b h = let q = and_parts (eqb a 1 || eqb a 3) (eqb b 2) h in
     (or_left (eqb a 1 || eqb a 3) (eqb a 2) q.0, or_right (eqb b 1 || eqb b 3) (eqb b 2) q.1)
 
 no_way_back : (a b : ℕ) → (a ≡ b → ⊥) → Closes waiting.live a b → ⊥
-no_way_back a b ne (inl e) = ne e
-no_way_back a b ne (inr way) = true≢false (sym (way_begins way).1)
+no_way_back a b ne = begins_none waiting.live a b ne (λ c. refl)
 
 applied_edges : (a b : ℕ) → applied.live a b ≡ true → NeededEdge printed (asked false) waiting dropped_release a b
 applied_edges a b h = let q = and_parts (eqb a 1 || eqb a 3) (eqb b 2) h in (

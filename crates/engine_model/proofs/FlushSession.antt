@@ -1,5 +1,6 @@
 -- The flush in small is a run of steps, and so is the change of the version after it.
 use Rattle.std.proofs.Common.{◌≡◌, inl, inr, ◌<◌, ℕ, Bool, true, false, not, ◌||◌, ◌&&◌, arith, refl, sym, ap, subst, List, [], ◌∷◌, eqb, ne_eqb}
+use Rattle.std.proofs.Math.Bool.{and-false}
 use Rattle.engine_model.specs.World.{World}
 use Rattle.engine_model.specs.Contents.{Last}
 use Rattle.engine_model.specs.Births.{Slot, Name, Print, IsSlot, Leads, cached_value}
@@ -29,14 +30,11 @@ fixed_step : (m : Moment) → Step printed 5 m (all_fixed m)
 fixed_step m = BarrierDone (barrier_made_is m.world) (λ l. refl) refl (λ p. refl)
 
 -- the two pages without an edge to them
-and_false : (b : Bool) → (b && false) ≡ false
-and_false b = grind arith
-
 and_falses : (b c : Bool) → ((b && false) && c) ≡ false
 and_falses b c = grind arith
 
 count_ready : IsReady wrote.world 2
-count_ready = record { dirty = refl; no_live = λ a. and_false (eqb a 2 || eqb a 4); no_barred = λ a. refl }
+count_ready = record { dirty = refl; no_live = λ a. and-false (eqb a 2 || eqb a 4); no_barred = λ a. refl }
 
 data_ready : IsReady count_out.world 4
 data_ready = record { dirty = refl; no_live = λ a. and_falses (eqb a 2 || eqb a 4) (not (eqb a 2)); no_barred = λ a. none (eqb a 2 || eqb a 4) (eqb a 2) }

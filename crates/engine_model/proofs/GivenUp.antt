@@ -1,5 +1,6 @@
 -- A data page with count 0 is given up: the state after it is that of a dropped page.
 use Rattle.std.proofs.Common.{◌≡◌, ◌≢◌, ℕ, Bool, true, false, not, ◌&&◌, cond, arith, refl, ap, List, eqb, eq-eqb, ne_eqb}
+use Rattle.std.proofs.Math.Bool.{and-false, and-true}
 use Rattle.engine_model.specs.World.{Layout, World}
 use Rattle.engine_model.specs.Entries.{Apart, IsData, cached_count}
 use Rattle.engine_model.specs.Drops.{Dropped}
@@ -7,12 +8,6 @@ use Rattle.engine_model.specs.Invariant.{EngineInvariant, Moment}
 use Rattle.engine_model.specs.Schedule.{DropData}
 use Rattle.engine_model.specs.SmallSteps.{given_up}
 use Rattle.engine_model.proofs.Schedule.{step_keeps}
-
-and_true : (b : Bool) → (b && true) ≡ b
-and_true b = grind arith
-
-and_false : (b : Bool) → (b && false) ≡ false
-and_false b = grind arith
 
 pub given_up_is : (lay : Layout) (w : World) (p : ℕ) → IsData lay p → cached_count lay w p ≡ 0 → Dropped lay w (given_up (lay.data_page p) w) p
 given_up_is lay w p is none = record {
@@ -23,10 +18,10 @@ given_up_is lay w p is none = record {
   hung = λ a. refl;
   queue = refl;
   barred = λ a b. refl;
-  live = λ a b ne. rw (ne_eqb a (lay.data_page p) ne) (and_true (w.live a b));
-  live_gone = λ b. rw (eq-eqb (lay.data_page p) (lay.data_page p) refl) (and_false (w.live (lay.data_page p) b));
-  dirty = λ a ne. rw (ne_eqb a (lay.data_page p) ne) (and_true (w.dirty a));
-  dirty_gone = rw (eq-eqb (lay.data_page p) (lay.data_page p) refl) (and_false (w.dirty (lay.data_page p)));
+  live = λ a b ne. rw (ne_eqb a (lay.data_page p) ne) (and-true (w.live a b));
+  live_gone = λ b. rw (eq-eqb (lay.data_page p) (lay.data_page p) refl) (and-false (w.live (lay.data_page p) b));
+  dirty = λ a ne. rw (ne_eqb a (lay.data_page p) ne) (and-true (w.dirty a));
+  dirty_gone = rw (eq-eqb (lay.data_page p) (lay.data_page p) refl) (and-false (w.dirty (lay.data_page p)));
   cached = λ a ne. rw (ne_eqb a (lay.data_page p) ne);
   cached_gone = rw (eq-eqb (lay.data_page p) (lay.data_page p) refl);
 }

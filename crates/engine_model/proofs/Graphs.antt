@@ -201,3 +201,8 @@ way_longer sub p = path_old sub p
 
 pub acyclic_none : (live : ℕ → ℕ → Bool) → ((a b : ℕ) → live a b ≡ false) → IsAcyclic live
 acyclic_none live none a p = let q = way_begins p in true≢false (sym q.1 ∙ none a q.0)
+
+-- no edge begins at the page, so none to it closes
+pub begins_none : (live : ℕ → ℕ → Bool) (a b : ℕ) → (a ≡ b → ⊥) → ((c : ℕ) → live b c ≡ false) → Closes live a b → ⊥
+begins_none live a b ne none (inl e) = ne e
+begins_none live a b ne none (inr way) = let q = way_begins way in true≢false (sym q.1 ∙ none q.0)

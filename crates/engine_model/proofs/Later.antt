@@ -14,7 +14,7 @@ use Rattle.engine_model.specs.Pool.{Listed, after_fixed, new_pool, taken_all, wr
 use Rattle.engine_model.specs.Schedule.{BarrierDone, WriteDone, WriteTaken, WriteRefused, Unchanged, ReleaseApplied, Discard, Write, WriteAgain, DiscardAgain, Fold, FoldZero, DropData, Correct, FlushDone, Run, Step, gained, gained_in}
 use Rattle.engine_model.specs.Invariant.{EngineInvariant, Moment}
 use Rattle.engine_model.proofs.Images.{image_fits, image_reads}
-use Rattle.engine_model.proofs.Lasts.{last_has}
+use Rattle.engine_model.proofs.Lasts.{has_left, has_parts, has_right, last_has}
 use Rattle.engine_model.proofs.Scans.{session_start}
 use Rattle.engine_model.proofs.Schedule.{step_keeps}
 
@@ -63,20 +63,6 @@ module _ (lay : Layout) (top : ℕ) (sound : Bool) (format : Format lay top) whe
             calls all every pool,
         λ l lt. block_allowed n.world.newest m.array fit l lt,
       )
-
-has_left : (x : List ℕ) (xs ys : List (List ℕ)) → Has x xs → Has x (xs ++ ys)
-has_left x [] ys h = absurd h
-has_left x (y ∷ zs) ys (inl e) = inl e
-has_left x (y ∷ zs) ys (inr h) = inr (has_left x zs ys h)
-
-has_right : (x : List ℕ) (xs ys : List (List ℕ)) → Has x ys → Has x (xs ++ ys)
-has_right x [] ys h = h
-has_right x (y ∷ zs) ys h = inr (has_right x zs ys h)
-
-has_parts : (x : List ℕ) (xs ys : List (List ℕ)) → Has x (xs ++ ys) → Has x xs ⊎ Has x ys
-has_parts x [] ys h = inr h
-has_parts x (y ∷ zs) ys (inl e) = inl (inl e)
-has_parts x (y ∷ zs) ys (inr h) = elim (has_parts x zs ys h) [ inl a ↦ inl (inr a) | inr b ↦ inr b ]
 
 -- what a block's list has after a step it had, or gained
 gains_parts : (before after : ℕ → List (List ℕ)) (l : ℕ) (content : List ℕ) → Gains before after l content → (k : ℕ) (x : List ℕ) → Has x (after k)

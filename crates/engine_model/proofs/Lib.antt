@@ -27,7 +27,7 @@ pub mod Bytes
 pub mod CoveredCount
 pub mod Schedule
 pub mod Examples
-pub mod Unborn
+pub mod Corollaries
 pub mod NewEdges
 pub mod Births
 pub mod Passes

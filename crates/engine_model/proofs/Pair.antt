@@ -7,7 +7,7 @@ use Rattle.engine_model.specs.Edits.{CacheOnly}
 use Rattle.engine_model.specs.Commands.{PageContent, Renamed}
 use Rattle.engine_model.specs.Examples.{asked}
 use Rattle.engine_model.specs.Pair.{equal_pages, folded, pair}
-use Rattle.engine_model.proofs.Graphs.{way_begins}
+use Rattle.engine_model.proofs.Graphs.{begins_none}
 
 one_of : (q : ℕ) → IsData pair q → (q ≡ 1) ⊎ (q ≡ 2)
 one_of q d = cases q d.0 d.1
@@ -44,10 +44,6 @@ rest = record {
   barred_ends = λ a b h. absurd (true≢false (sym h));
 }
 
-no_way : (a b : ℕ) → a ≢ b → Closes equal_pages.live a b → ⊥
-no_way a b ne (inl e) = ne e
-no_way a b ne (inr way) = true≢false (sym (way_begins way).1)
-
 first_block : (k : ℕ) → k < 2 → k ≢ 1 → k ≡ 0
 first_block k lt ne = omega arith
 
@@ -55,7 +51,7 @@ pub fold_renamed : Renamed pair (asked false) 5 equal_pages folded 1 2 1
 fold_renamed = record {
   rest = rest;
   edges = record { live = λ a b h. let e = ends a b h in inr (inr e.0, inl e.1); barred = λ a b h. absurd (true≢false (sym h)) };
-  no_cycle = no_way 2 1 (λ e. omega (arith, e));
+  no_cycle = begins_none equal_pages.live 2 1 (λ e. omega (arith, e)) (λ c. refl);
   released = record {
     in_range = omega arith;
     was = refl;

@@ -1,6 +1,7 @@
 -- A pool that is told knows the counts.
 use Rattle.std.proofs.Common.{◌≡◌, ◌≢◌, ◌↔◌, ◌<◌, inl, inr, arith, refl, [], ◌∷◌, eq-zero-or-pos, eqb-true, ℕ, Bool, true, false, not, ◌&&◌, ◌||◌, sym, ap, ◌∙◌, List, eqb, eq-eqb, ne_eqb, true≢false}
 use Rattle.std.proofs.lemmas.Bool.{cases_eq, or_parts, or_cases, or_left, or_right, and_cases, and_parts, and_from, not-false, not-true, not_from_false, true_from_ne_false}
+use Rattle.std.proofs.Math.Bool.{or-false}
 use Rattle.engine_model.specs.World.{Layout, World, Possible}
 use Rattle.engine_model.specs.Entries.{IsData, cached_count, newest_count}
 use Rattle.engine_model.specs.Known.{Free}
@@ -143,11 +144,8 @@ pub tables_newest : (lay : Layout) (tables : List ℕ) (pool : ℕ → Told) (p 
 tables_newest lay [] pool p h = absurd h
 tables_newest lay (t ∷ ts) pool p h = elim (cases_eq (lay.count_page p) t) [
   | inl e ↦ rw (eq-eqb (lay.count_page p) t e) (ap not (tables_zero lay ts pool p))
-  | inr ne ↦ rw (ne_eqb (lay.count_page p) t ne) (elim h [ inl e ↦ absurd (ne (sym e)) | inr l ↦ or_false _ ∙ tables_newest lay ts pool p l ])
+  | inr ne ↦ rw (ne_eqb (lay.count_page p) t ne) (elim h [ inl e ↦ absurd (ne (sym e)) | inr l ↦ or-false _ ∙ tables_newest lay ts pool p l ])
 ]
-  where
-    or_false : (b : Bool) → (b || false) ≡ b
-    or_false b = grind arith
 
 pub start_knows : (lay : Layout) (w : World) (counted tables : List ℕ) → AtRest w
     → ((p : ℕ) → IsData lay p → Listed p counted ↔ (0 < cached_count lay w p)) → ((p : ℕ) → IsData lay p → Listed (lay.count_page p) tables)

@@ -1,6 +1,7 @@
 -- Edits that leave the names, the prints and the queue: a page is touched, a fresh page gets its content, a count is raised, an edge is added.
 use Rattle.std.proofs.Common.{◌≡◌, ◌≢◌, ◌⊎◌, inl, inr, ◌+◌, ◌<◌, ◌≤◌, ℕ, Bool, true, false, not, ◌||◌, ◌&&◌, arith, refl, sym, ap, ◌∙◌, subst, List, eqb, eq-eqb, ne_eqb, eqb-true, true≢false}
 use Rattle.std.proofs.lemmas.Bool.{cases_eq, or_left, or_right, or_cases, and_parts, and_from, not_from_false}
+use Rattle.std.proofs.Math.Bool.{or-false}
 use Rattle.engine_model.specs.World.{Layout, World}
 use Rattle.engine_model.specs.Entries.{Apart, EdgeKind, HasEdge, IsData, IsTable, cached_count}
 use Rattle.engine_model.specs.Paths.{IsAcyclic, Closes}
@@ -55,10 +56,7 @@ pub touched_here : (w : World) (page : ℕ) → (touched page w).dirty page ≡ 
 touched_here w page = or_right (w.dirty page) (eqb page page) (eq-eqb page page refl)
 
 pub touched_other : (w : World) (page a : ℕ) → a ≢ page → (touched page w).dirty a ≡ w.dirty a
-touched_other w page a ne = rw (ne_eqb a page ne) (or_false (w.dirty a))
-  where
-    or_false : (b : Bool) → (b || false) ≡ b
-    or_false b = grind arith
+touched_other w page a ne = rw (ne_eqb a page ne) (or-false (w.dirty a))
 
 pub put_here : (w : World) (page : ℕ) (c : List ℕ) → (put page c w).cached page ≡ c
 put_here w page c = rw (eq-eqb page page refl)

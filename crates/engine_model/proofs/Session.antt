@@ -1,5 +1,6 @@
 -- The session in small is a run of steps.
 use Rattle.std.proofs.Common.{◌≡◌, ◌≢◌, ◌⊎◌, inl, inr, ◌<◌, ℕ, Bool, true, false, ◌||◌, ◌&&◌, arith, refl, sym, ap, subst, ◌≤◌, List, [], ◌∷◌, true≢false, eqb, ne_eqb}
+use Rattle.std.proofs.Math.Bool.{or-false}
 use Rattle.engine_model.specs.World.{count_below}
 use Rattle.engine_model.specs.Entries.{IsTable, IsData}
 use Rattle.engine_model.specs.Births.{Slot, Name, Print, IsSlot, Leads, cached_value}
@@ -180,9 +181,6 @@ release_lowers = record {
 released_step : Step printed 5 discarded count_gone
 released_step = ReleaseApplied unborn_release [] [] release_lowers.applied release_lowers.data_kept release_lowers.array release_lowers.births release_lowers.pool
 
-or_none : (x : Bool) → (x || false) ≡ x
-or_none x = grind arith
-
 pub content_dropped : Dropped printed count_gone_world dropped_world 1
 content_dropped = record {
   is_data = is_data;
@@ -201,10 +199,10 @@ content_dropped = record {
 }
   where
     gone : (a b : ℕ) → a ≢ 4 → (eqb a 2 && (eqb b 1 || eqb b 3)) ≡ ((eqb a 2 || eqb a 4) && (eqb b 1 || eqb b 3))
-    gone a b ne = rw (ne_eqb a 4 ne) (ap (λ x. x && (eqb b 1 || eqb b 3)) (sym (or_none (eqb a 2))))
+    gone a b ne = rw (ne_eqb a 4 ne) (ap (λ x. x && (eqb b 1 || eqb b 3)) (sym (or-false (eqb a 2))))
 
     less : (a : ℕ) → a ≢ 4 → ((eqb a 1 || eqb a 3) || eqb a 2) ≡ ((eqb a 1 || eqb a 3) || (eqb a 2 || eqb a 4))
-    less a ne = rw (ne_eqb a 4 ne) (ap (λ x. (eqb a 1 || eqb a 3) || x) (sym (or_none (eqb a 2))))
+    less a ne = rw (ne_eqb a 4 ne) (ap (λ x. (eqb a 1 || eqb a 3) || x) (sym (or-false (eqb a 2))))
 
 drop_step : Step printed 5 count_gone dropped
 drop_step = DropData 1 content_dropped (λ l. refl) refl (λ q. refl)

@@ -11,12 +11,7 @@ use Rattle.engine_model.specs.Examples.{printed, written_array}
 use Rattle.engine_model.specs.Session.{mounted, twice_array, unborn_release}
 use Rattle.engine_model.specs.SmallSession.{count_before_map, count_before_print, count_lowered, count_raised, count_wasted, data_before_map, data_before_print, name_gone, name_set, print_cleared, print_set, print_touched, small_moments, waste_gone}
 use Rattle.engine_model.proofs.Examples.{empty_free, is_data, no_other, no_zero}
-use Rattle.engine_model.proofs.Graphs.{way_begins}
-
--- no edge begins at the page, so none to it closes
-begins_none : (w : World) (a b : ℕ) → a ≢ b → ((c : ℕ) → w.live b c ≡ false) → Closes w.live a b → ⊥
-begins_none w a b ne none (inl e) = ne e
-begins_none w a b ne none (inr way) = let q = way_begins way in true≢false (sym q.1 ∙ none q.0)
+use Rattle.engine_model.proofs.Graphs.{begins_none}
 
 data_kind : (b : ℕ) → (b ≡ 1) ⊎ (b ≡ 3) → EdgeKind printed 4 b
 data_kind b (inl e) = inl (inl (1, is_data, refl), inl (0, omega arith, e))
@@ -110,13 +105,13 @@ small_run = (
         (
           inr (Raise 1 (1 ∷ []) count_raised.pool can_raise refl (inl (refl, (λ q. refl)))),
           (
-            inr (Order 4 1 (data_kind 1 (inl refl)) refl refl (begins_none count_raised.world 4 1 (λ e. omega (arith, e)) (λ c. refl)) refl),
+            inr (Order 4 1 (data_kind 1 (inl refl)) refl refl (begins_none count_raised.world.live 4 1 (λ e. omega (arith, e)) (λ c. refl)) refl),
             (
-              inr (Order 2 1 (count_kind 1 (inl refl)) refl refl (begins_none data_before_map.world 2 1 (λ e. omega (arith, e)) (λ c. refl)) refl),
+              inr (Order 2 1 (count_kind 1 (inl refl)) refl refl (begins_none data_before_map.world.live 2 1 (λ e. omega (arith, e)) (λ c. refl)) refl),
               (
-                inr (Order 4 3 (data_kind 3 (inr refl)) refl refl (begins_none count_before_map.world 4 3 (λ e. omega (arith, e)) (λ c. refl)) refl),
+                inr (Order 4 3 (data_kind 3 (inr refl)) refl refl (begins_none count_before_map.world.live 4 3 (λ e. omega (arith, e)) (λ c. refl)) refl),
                 (
-                  inr (Order 2 3 (count_kind 3 (inr refl)) refl refl (begins_none data_before_print.world 2 3 (λ e. omega (arith, e)) (λ c. refl)) refl),
+                  inr (Order 2 3 (count_kind 3 (inr refl)) refl refl (begins_none data_before_print.world.live 2 3 (λ e. omega (arith, e)) (λ c. refl)) refl),
                   (
                     inr (SetPrint 1 (1 ∷ (7 ∷ [])) (7 ∷ []) can_print refl),
                     (

@@ -1,9 +1,9 @@
 use Rattle.engine_model.proofs.births_known.births.Goals as goal
 use Rattle.engine_model.proofs.BirthWords.{unborn_from, unborn_to}
 use Rattle.engine_model.proofs.Births.{unborn_births}
+use Rattle.engine_model.proofs.Corollaries.{dirty_no_name, dirty_no_print}
 use Rattle.engine_model.proofs.Flushes.{none_recorded}
 use Rattle.engine_model.proofs.Schedule.{tells}
-use Rattle.engine_model.proofs.Unborn.{dirty_no_name, dirty_no_print}
 
 pub returns : goal.returns
 returns c = record {

@@ -1,7 +1,7 @@
 use Rattle.engine_model.proofs.postponed.no_way.Goals as goal
 use Rattle.engine_model.proofs.Bytes.{apart}
+use Rattle.engine_model.proofs.Corollaries.{settled_open}
 use Rattle.engine_model.proofs.NewEdges.{data_open}
-use Rattle.engine_model.proofs.Unborn.{settled_open}
 
 pub returns : goal.returns
 returns c = record {
