@@ -3,10 +3,9 @@ use Rattle.std.proofs.Common.{◌≡◌, ◌⊎◌, inl, inr, ℕ, Bool, cond, r
 use Rattle.std.proofs.lemmas.Bool.{cases_eq}
 use Rattle.engine_model.specs.World.{Layout, World, Has}
 use Rattle.engine_model.specs.Entries.{Apart}
-use Rattle.engine_model.specs.Births.{Fixed, Tried, Written}
-use Rattle.engine_model.specs.Pool.{after_fixed, after_tried, after_written}
 use Rattle.engine_model.specs.DeviceSteps.{Barrier, IsReady, KeepsMarks, MovesMarks, Taken, barrier_made, page_taken, page_written}
 use Rattle.engine_model.specs.Invariant.{EngineInvariant, Moment}
+use Rattle.engine_model.specs.SmallRuns.{with_barrier, with_taken, with_written}
 use Rattle.engine_model.specs.Schedule.{BarrierDone, WriteDone, WriteTaken}
 use Rattle.engine_model.proofs.Lasts.{has_parts}
 use Rattle.engine_model.proofs.Schedule.{step_keeps}
@@ -71,17 +70,13 @@ pub page_written_moves : (lay : Layout) (w : World) (page : ℕ) → MovesMarks 
 page_written_moves lay w page = record { dirty = λ a. refl; hung = λ a. refl; live = λ a b. refl; barred = λ a b. refl; queue = refl }
 
 module _ (lay : Layout) (top : ℕ) (sound : Bool) (apart : Apart lay) (m : Moment) (k : EngineInvariant lay top sound m) where
-  pub barrier_made_keeps : EngineInvariant lay top sound (record m { world = barrier_made m.world; calls = Fixed ∷ m.calls; pool = after_fixed m.pool })
-  barrier_made_keeps = step_keeps lay top sound apart m (record m { world = barrier_made m.world; calls = Fixed ∷ m.calls; pool = after_fixed m.pool }) k
-      (BarrierDone (barrier_made_is m.world) (λ l. refl) refl (λ p. refl))
+  pub barrier_made_keeps : EngineInvariant lay top sound (with_barrier m)
+  barrier_made_keeps = step_keeps lay top sound apart m (with_barrier m) k (BarrierDone (barrier_made_is m.world) (λ l. refl) refl (λ p. refl))
 
-  pub page_taken_kept : (page : ℕ) → IsReady m.world page
-      → EngineInvariant lay top sound (record m { world = page_taken page m.world; calls = Tried page ∷ m.calls; pool = after_tried lay page m.pool })
-  page_taken_kept page ready = step_keeps lay top sound apart m (record m { world = page_taken page m.world; calls = Tried page ∷ m.calls; pool = after_tried lay page m.pool }) k
+  pub page_taken_kept : (page : ℕ) → IsReady m.world page → EngineInvariant lay top sound (with_taken lay page m)
+  page_taken_kept page ready = step_keeps lay top sound apart m (with_taken lay page m) k
       (WriteTaken page (page_taken_is m.world page ready) (page_taken_keeps m.world page) (λ l. refl) refl (λ p. refl))
 
-  pub page_written_kept : (page : ℕ) → IsReady m.world page
-      → EngineInvariant lay top sound (record m { world = page_written lay page m.world; calls = Written page ∷ (Tried page ∷ m.calls); pool = after_written lay page (after_tried lay page m.pool) })
-  page_written_kept page ready =
-      step_keeps lay top sound apart m (record m { world = page_written lay page m.world; calls = Written page ∷ (Tried page ∷ m.calls); pool = after_written lay page (after_tried lay page m.pool) }) k
+  pub page_written_kept : (page : ℕ) → IsReady m.world page → EngineInvariant lay top sound (with_written lay page m)
+  page_written_kept page ready = step_keeps lay top sound apart m (with_written lay page m) k
       (WriteDone page (page_written_is lay m.world page ready) (page_written_moves lay m.world page) (λ l. refl) refl (λ p. refl))

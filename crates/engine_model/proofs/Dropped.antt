@@ -163,9 +163,6 @@ module _ (lay : Layout) (top : ℕ) (w v : World) (p : ℕ) (apart : Apart lay) 
   other : (q : ℕ) → IsData lay q → (q ≡ p → ⊥) → lay.data_page q ≢ lay.data_page p
   other q d ne = apart.data_data q p d x.is_data ne
 
-  was_clean : (a : ℕ) → v.dirty a ≡ false → (a ≡ lay.data_page p) ⊎ (w.dirty a ≡ false)
-  was_clean a y = elim (cases_eq a (lay.data_page p)) [ inl e ↦ inl e | inr ne ↦ inr (sym (x.dirty a ne) ∙ y) ]
-
   still_clean : (a : ℕ) → w.dirty a ≡ false → v.dirty a ≡ false
   still_clean a c = elim (cases_eq a (lay.data_page p)) [ inl e ↦ ap v.dirty e ∙ x.dirty_gone | inr ne ↦ x.dirty a ne ∙ c ]
 

@@ -8,25 +8,25 @@ use Rattle.engine_model.specs.DeviceSteps.{IsReady}
 use Rattle.engine_model.specs.Corrections.{Corrected}
 use Rattle.engine_model.specs.Invariant.{EngineInvariant, Moment}
 use Rattle.engine_model.specs.Schedule.{BarrierDone, Correct, FlushDone, NoNode, Run, Step, WriteAgain, WriteDone, WriteTaken}
-use Rattle.engine_model.specs.SmallRuns.{OrderByBarrier, SmallStep}
+use Rattle.engine_model.specs.SmallRuns.{OrderByBarrier, SmallStep, with_barrier, with_taken, with_written}
 use Rattle.engine_model.specs.SmallSteps.{placed}
 use Rattle.engine_model.specs.VersionSwitch.{Clear, Edited, Fix, NoPrints, PageDone, Stamp, SwitchRun, SwitchStart}
 use Rattle.engine_model.specs.Examples.{printed}
 use Rattle.engine_model.specs.Session.{wrote}
-use Rattle.engine_model.specs.FlushSession.{again, all_cleared, all_fixed, cleared_out, clearing, count_out, data_out, data_tried, first_wave, flush_moments, flushed, map_out, page_done, page_failed, print_out, second_wave, stamped_out, stamping, switch_moments, waits_for_barrier}
+use Rattle.engine_model.specs.FlushSession.{again, all_cleared, cleared_out, clearing, count_out, data_out, data_tried, first_wave, flush_moments, flushed, map_out, print_out, second_wave, stamped_out, stamping, switch_moments, waits_for_barrier}
 use Rattle.engine_model.proofs.DeviceMoves.{barrier_made_is, page_taken_is, page_taken_keeps, page_written_is, page_written_moves}
 use Rattle.engine_model.proofs.Examples.{is_data, no_other}
 use Rattle.engine_model.proofs.Quiet.{put_other, touched_here, touched_other}
 use Rattle.engine_model.proofs.Schedule.{run_keeps, step_keeps}
 use Rattle.engine_model.proofs.Session.{first_step, mounted_kept, printed_apart}
 
-done_step : (m : Moment) (page : ℕ) → IsReady m.world page → Step printed 5 m (page_done page m)
+done_step : (m : Moment) (page : ℕ) → IsReady m.world page → Step printed 5 m (with_written printed page m)
 done_step m page ready = WriteDone page (page_written_is printed m.world page ready) (page_written_moves printed m.world page) (λ l. refl) refl (λ p. refl)
 
-failed_step : (m : Moment) (page : ℕ) → IsReady m.world page → Step printed 5 m (page_failed page m)
+failed_step : (m : Moment) (page : ℕ) → IsReady m.world page → Step printed 5 m (with_taken printed page m)
 failed_step m page ready = WriteTaken page (page_taken_is m.world page ready) (page_taken_keeps m.world page) (λ l. refl) refl (λ p. refl)
 
-fixed_step : (m : Moment) → Step printed 5 m (all_fixed m)
+fixed_step : (m : Moment) → Step printed 5 m (with_barrier m)
 fixed_step m = BarrierDone (barrier_made_is m.world) (λ l. refl) refl (λ p. refl)
 
 -- the two pages without an edge to them

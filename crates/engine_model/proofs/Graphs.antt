@@ -93,9 +93,6 @@ barred_added e es a b = elim (cases_Bool e.is_live) [
   ]
 ]
 
-drop_bits : (x y p rest : Bool) → (rest && not p) ≡ ((x && (y && false)) || rest) && not p
-drop_bits x y p rest = grind arith
-
 keep_bits : (x y l p rest : Bool) → (p && l) ≡ false → ((x && (y && l)) || (rest && not p)) ≡ ((x && (y && l)) || rest) && not p
 keep_bits x y l p rest h = grind arith
 

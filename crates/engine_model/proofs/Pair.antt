@@ -9,12 +9,6 @@ use Rattle.engine_model.specs.Examples.{asked}
 use Rattle.engine_model.specs.Pair.{equal_pages, folded, pair}
 use Rattle.engine_model.proofs.Graphs.{begins_none}
 
-one_of : (q : ℕ) → IsData pair q → (q ≡ 1) ⊎ (q ≡ 2)
-one_of q d = cases q d.0 d.1
-  where
-    cases : (q : ℕ) → 0 < q → q ≤ 2 → (q ≡ 1) ⊎ (q ≡ 2)
-    cases q pos few = grind arith
-
 only_second : (q : ℕ) → IsData pair q → q ≢ 1 → q ≡ 2
 only_second q d ne = omega (arith, d)
 

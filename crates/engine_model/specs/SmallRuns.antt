@@ -1,14 +1,29 @@
--- Runs in which a command falls into its small steps, so that a device call, a fault or a crash may come between any two of them.
+-- The small steps as steps of moments, and runs in which a command falls into them, so that a device call, a fault or a crash may come between any two of them.
 use Rattle.std.specs.Prelude.{◌≡◌, ◌⊎◌, ◌++◌, ℕ, List, [], ◌∷◌, true}
 use Rattle.engine_model.specs.World.{Layout, Release, World}
 use Rattle.engine_model.specs.Entries.{EdgeKind, IsData, IsTable, cached_count}
 use Rattle.engine_model.specs.Paths.{Closes}
 use Rattle.engine_model.specs.Known.{Free}
-use Rattle.engine_model.specs.Births.{Change, Name, Print}
-use Rattle.engine_model.specs.Pool.{Told}
+use Rattle.engine_model.specs.Births.{Change, Fixed, Name, Print, Tried, Written}
+use Rattle.engine_model.specs.Pool.{Told, after_fixed, after_tried, after_written}
 use Rattle.engine_model.specs.Invariant.{Moment, ToldTake, ToldZero, known_at}
+use Rattle.engine_model.specs.DeviceSteps.{barrier_made, page_taken, page_written}
 use Rattle.engine_model.specs.SmallSteps.{CanClear, CanLower, CanName, CanPrint, CanRaise, CanRecount, GainsOrHolds, given_up, held_by, lowered, named, ordered, ordered_by_barrier, placed, put, touched}
 use Rattle.engine_model.specs.Schedule.{Step}
+
+-- A barrier is made, or a page is written or taken, and birth_marks and the pool were told.
+abbrev pub with_barrier : Moment → Moment
+with_barrier m = record m { world = barrier_made m.world; calls = Fixed ∷ m.calls; pool = after_fixed m.pool }
+
+abbrev pub with_written : Layout → ℕ → Moment → Moment
+with_written lay page m = record m {
+  world = page_written lay page m.world;
+  calls = Written page ∷ (Tried page ∷ m.calls);
+  pool = after_written lay page (after_tried lay page m.pool);
+}
+
+abbrev pub with_taken : Layout → ℕ → Moment → Moment
+with_taken lay page m = record m { world = page_taken page m.world; calls = Tried page ∷ m.calls; pool = after_tried lay page m.pool }
 
 -- the moment with another state
 abbrev pub in_state : World → Moment → Moment

@@ -8,6 +8,7 @@ ghost use Rattle.engine_model.specs.DeviceSteps.{Barrier, barrier_made};
 ghost use Rattle.engine_model.specs.Entries.{Apart};
 ghost use Rattle.engine_model.specs.Invariant.{EngineInvariant, Moment};
 ghost use Rattle.engine_model.specs.Pool.{PoolExact, PoolKnows, Told, after_fixed};
+ghost use Rattle.engine_model.specs.SmallRuns.{with_barrier};
 ghost use Rattle.engine_model.specs.World.{Agree, Layout, World};
 
 /// A barrier that ended done keeps each part of the invariant.
@@ -26,4 +27,6 @@ pub fn barrier()
         → EngineInvariant lay top sound m → Barrier m.world n.world → Agree n.array m.array
         → n.calls ≡ Fixed ∷ m.calls → Agree n.pool (after_fixed m.pool) → EngineInvariant lay top sound n }
     ensures made { (w : World) → Barrier w (barrier_made w) }
+    ensures kept { (lay : Layout) (top : ℕ) (sound : Bool) → Apart lay → (m : Moment)
+        → EngineInvariant lay top sound m → EngineInvariant lay top sound (with_barrier m) }
 {}

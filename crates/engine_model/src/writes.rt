@@ -8,6 +8,7 @@ ghost use Rattle.engine_model.specs.DeviceSteps.{IsReady, KeepsMarks, MovesMarks
 ghost use Rattle.engine_model.specs.Entries.{Apart};
 ghost use Rattle.engine_model.specs.Invariant.{EngineInvariant, Moment};
 ghost use Rattle.engine_model.specs.Pool.{PoolExact, PoolKnows, PossibleStays, Told, after_tried, after_written};
+ghost use Rattle.engine_model.specs.SmallRuns.{with_taken, with_written};
 ghost use Rattle.engine_model.specs.World.{Agree, Layout, World};
 
 /// A write that ended done: the page is hung and not dirty, the Live edges from it become Barrier edges, and the releases of its blocks move from stage 0 to stage 1.
@@ -32,6 +33,9 @@ pub fn write_done()
         → Agree n.pool (after_written lay page (after_tried lay page m.pool)) → EngineInvariant lay top sound n }
     ensures made { (lay : Layout) (w : World) (page : ℕ) → IsReady w page
         → Taken w (page_written lay page w) page × MovesMarks lay w (page_written lay page w) page }
+    ensures kept { (lay : Layout) (top : ℕ) (sound : Bool) → Apart lay → (m : Moment)
+        → EngineInvariant lay top sound m → (page : ℕ) → IsReady m.world page
+        → EngineInvariant lay top sound (with_written lay page m) }
 {}
 
 /// A write that failed and was taken: page, mark and edges stay.
@@ -51,6 +55,9 @@ pub fn write_taken()
         → EngineInvariant lay top sound n }
     ensures made { (w : World) (page : ℕ) → IsReady w page
         → Taken w (page_taken page w) page × KeepsMarks w (page_taken page w) }
+    ensures kept { (lay : Layout) (top : ℕ) (sound : Bool) → Apart lay → (m : Moment)
+        → EngineInvariant lay top sound m → (page : ℕ) → IsReady m.world page
+        → EngineInvariant lay top sound (with_taken lay page m) }
 {}
 
 /// A write that was refused changes nothing, but birth_marks and the pool were told of the try.

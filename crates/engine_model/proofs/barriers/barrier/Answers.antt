@@ -3,7 +3,7 @@ use Rattle.engine_model.proofs.Barrier.{barrier_keeps}
 use Rattle.engine_model.proofs.BarrierContents.{barrier_contents}
 use Rattle.engine_model.proofs.Births.{fixed_births}
 use Rattle.engine_model.proofs.Bytes.{apart}
-use Rattle.engine_model.proofs.DeviceMoves.{barrier_made_is}
+use Rattle.engine_model.proofs.DeviceMoves.{barrier_made_is, barrier_made_keeps}
 use Rattle.engine_model.proofs.Pool.{fixed_knows}
 use Rattle.engine_model.proofs.PoolExact.{fixed_exact}
 use Rattle.engine_model.proofs.Schedule.{step_keeps}
@@ -18,4 +18,5 @@ returns c = record {
   pool_is_exact = fixed_exact;
   whole = λ lay top sound apart m n k b e calls pool. step_keeps lay top sound apart m n k (BarrierDone b e calls pool);
   made = barrier_made_is;
+  kept = λ lay top sound apart m k. barrier_made_keeps lay top sound apart m k;
 }
