@@ -74,15 +74,7 @@ module _ (lay : Layout) (known : Known) (top : ℕ) (w v : World) (r : Release) 
 
   applied_edits : Edits lay top w v
   applied_edits = record {
-    newest = a.rest.newest;
-    possible = a.rest.possible;
-    cached_clean = a.rest.cached_clean;
-    hung = a.rest.hung;
-    dirty_kept = a.rest.dirty_kept;
-    live_kept = a.rest.live_kept;
-    barred_kept = a.rest.barred_kept;
-    live_ends = a.rest.live_ends;
-    barred_ends = a.rest.barred_ends;
+    rest = a.rest;
     kinds = kinds_kept lay w v _ _ a.edges (needed_kind lay known w r range.0 range.1) (hung_kind lay known w r range.0 range.1);
     acyclic = acyclic_kept lay w v _ _ a.edges old.marks_and_edges.acyclic (needed_open lay known w r a.no_cycle);
     name_gained = λ l p lt d h. inl (sym (a.names l lt) ∙ h);

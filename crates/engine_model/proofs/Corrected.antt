@@ -101,15 +101,7 @@ module _ (lay : Layout) (top : ℕ) (w v : World) (p : ℕ) (apart : Apart lay) 
 
   pub correct_keeps : CountsInvariant lay top v
   correct_keeps = edits_keep lay top w v old (record {
-    newest = x.rest.newest;
-    possible = x.rest.possible;
-    cached_clean = x.rest.cached_clean;
-    hung = x.rest.hung;
-    dirty_kept = x.rest.dirty_kept;
-    live_kept = x.rest.live_kept;
-    barred_kept = x.rest.barred_kept;
-    live_ends = x.rest.live_ends;
-    barred_ends = x.rest.barred_ends;
+    rest = x.rest;
     kinds = kinds_kept lay w v _ _ x.edges (λ a b n. inr (inr (p, x.is_data, n.0), (p, x.is_data, n.1))) (λ a b n. absurd n);
     acyclic = acyclic_kept lay w v _ _ x.edges old.marks_and_edges.acyclic closes_none;
     queue_in_range = λ l q stage z. old.lost_name_owes_release.in_range l q stage (rw x.queue at z);

@@ -18,6 +18,7 @@ use Rattle.engine_model.proofs.DeviceMoves.{barrier_made_is, page_taken_is, page
 use Rattle.engine_model.proofs.Examples.{is_data, no_other}
 use Rattle.engine_model.proofs.Quiet.{put_other, touched_here, touched_other}
 use Rattle.engine_model.proofs.Schedule.{run_keeps, step_keeps}
+use Rattle.engine_model.proofs.SwitchRuns.{placed_edited}
 use Rattle.engine_model.proofs.Session.{first_step, mounted_kept, printed_apart}
 
 done_step : (m : Moment) (page : ℕ) → IsReady m.world page → Step printed 5 m (with_written printed page m)
@@ -152,19 +153,6 @@ switch_start = record {
   kept = (run_keeps printed 5 true printed_apart wrote flush_moments wrote_kept flush_run).1.1.1.1.1.1.1.0;
   queue = refl;
   clean = no_node;
-}
-
-placed_edited : (w : World) (page : ℕ) (c : List ℕ) → Edited w (placed page c w) page
-placed_edited w page c = record {
-  newest = λ a. refl;
-  possible = λ a d q. q;
-  cached = λ a ne. put_other w page c a ne;
-  dirty = λ a ne. touched_other w page a ne;
-  dirty_here = touched_here w page;
-  hung = λ a. refl;
-  live = λ a b. refl;
-  barred = λ a b. refl;
-  queue = refl;
 }
 
 no_prints : NoPrints printed 3 (0 ∷ [])

@@ -8,15 +8,7 @@ use Rattle.engine_model.proofs.Views.{names_by}
 
 pub grown_edits : (lay : Layout) (top : ℕ) (w v : World) → CountsInvariant lay top w → Grown lay top w v → Edits lay top w v
 grown_edits lay top w v old x = record {
-  newest = x.rest.newest;
-  possible = x.rest.possible;
-  cached_clean = x.rest.cached_clean;
-  hung = x.rest.hung;
-  dirty_kept = x.rest.dirty_kept;
-  live_kept = x.rest.live_kept;
-  barred_kept = x.rest.barred_kept;
-  live_ends = x.rest.live_ends;
-  barred_ends = x.rest.barred_ends;
+  rest = x.rest;
   kinds = x.kinds;
   acyclic = x.acyclic;
   name_gained = λ l p lt d h. inl (sym (x.names l lt) ∙ h);

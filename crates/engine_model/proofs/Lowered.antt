@@ -8,7 +8,7 @@ use Rattle.engine_model.specs.Invariant.{EngineInvariant, Moment, ToldPool, Told
 use Rattle.engine_model.specs.Edits.{CacheOnly, ContentEdits, Edits}
 use Rattle.engine_model.specs.SmallSteps.{CanLower, CanRecount, SetsCount, lowered, put}
 use Rattle.engine_model.proofs.Queues.{kept_out, middle, queued_out, was_in}
-use Rattle.engine_model.proofs.Quiet.{count_table, put_formed, put_here, put_other, put_rest}
+use Rattle.engine_model.proofs.Quiet.{count_table, put_formed, put_here, put_other, put_rest, queue_rest}
 use Rattle.engine_model.proofs.Views.{names_by, none_some}
 use Rattle.engine_model.proofs.Whole.{edits_keep_all, nothing_told, pool_untold}
 
@@ -68,29 +68,11 @@ module _ (lay : Layout) (top : ℕ) (sound : Bool) (apart : Apart lay) (m : Mome
   data_same q d = away (lay.data_page q) (λ e. apart.table_data (lay.count_page p) q (count_table lay p x.is_data) d (sym e))
 
   rest : CacheOnly lay w v
-  rest = let r = put_rest lay w (lay.count_page p) c x.dirty in record {
-    newest = r.newest;
-    possible = r.possible;
-    cached_clean = r.cached_clean;
-    hung = r.hung;
-    dirty_kept = r.dirty_kept;
-    live_kept = r.live_kept;
-    barred_kept = r.barred_kept;
-    live_ends = r.live_ends;
-    barred_ends = r.barred_ends;
-  }
+  rest = queue_rest lay w (put (lay.count_page p) c w) queue (put_rest lay w (lay.count_page p) c x.dirty)
 
   edits : Edits lay top w v
   edits = record {
-    newest = rest.newest;
-    possible = rest.possible;
-    cached_clean = rest.cached_clean;
-    hung = rest.hung;
-    dirty_kept = rest.dirty_kept;
-    live_kept = rest.live_kept;
-    barred_kept = rest.barred_kept;
-    live_ends = rest.live_ends;
-    barred_ends = rest.barred_ends;
+    rest = rest;
     kinds = λ a b h. inl h;
     acyclic = k.counts.marks_and_edges.acyclic;
     name_gained = λ l q lt d h. inl (sym (names l lt) ∙ h);

@@ -2,7 +2,7 @@
 use Rattle.std.proofs.Common.{◌≡◌, ◌≢◌, ◌⊎◌, inl, inr, ◌+◌, ◌<◌, ◌≤◌, ℕ, Bool, true, false, not, ◌||◌, ◌&&◌, arith, refl, sym, ap, ◌∙◌, subst, List, eqb, eq-eqb, ne_eqb, eqb-true, true≢false}
 use Rattle.std.proofs.lemmas.Bool.{cases_eq, or_left, or_right, or_cases, and_parts, and_from, not_from_false}
 use Rattle.std.proofs.Math.Bool.{or-false}
-use Rattle.engine_model.specs.World.{Layout, World}
+use Rattle.engine_model.specs.World.{Layout, Release, World}
 use Rattle.engine_model.specs.Entries.{Apart, EdgeKind, HasEdge, IsData, IsTable, cached_count}
 use Rattle.engine_model.specs.Paths.{IsAcyclic, Closes}
 use Rattle.engine_model.specs.Known.{Free}
@@ -76,6 +76,20 @@ put_rest lay w page c dirty = record {
   barred_kept = λ a b h. h;
   live_ends = λ a b h. inl h;
   barred_ends = λ a b h. inl h;
+}
+
+-- and another queue beside
+pub queue_rest : (lay : Layout) (w v : World) (queue : List Release) → CacheOnly lay w v → CacheOnly lay w (record v { queue = queue })
+queue_rest lay w v queue r = record {
+  newest = r.newest;
+  possible = r.possible;
+  cached_clean = r.cached_clean;
+  hung = r.hung;
+  dirty_kept = r.dirty_kept;
+  live_kept = r.live_kept;
+  barred_kept = r.barred_kept;
+  live_ends = r.live_ends;
+  barred_ends = r.barred_ends;
 }
 
 -- a content of a table page is well formed, and so are the others

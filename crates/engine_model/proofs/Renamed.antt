@@ -116,15 +116,7 @@ module _ (lay : Layout) (known : Known) (top : ℕ) (w v : World) (l o : ℕ) (o
 
   discard_edits : Edits lay top w v
   discard_edits = record {
-    newest = x.rest.newest;
-    possible = x.rest.possible;
-    cached_clean = x.rest.cached_clean;
-    hung = x.rest.hung;
-    dirty_kept = x.rest.dirty_kept;
-    live_kept = x.rest.live_kept;
-    barred_kept = x.rest.barred_kept;
-    live_ends = x.rest.live_ends;
-    barred_ends = x.rest.barred_ends;
+    rest = x.rest;
     kinds = kinds_kept lay w v _ _ x.edges (λ a b n. absurd n) (λ a b n. absurd n);
     acyclic = acyclic_kept lay w v _ _ x.edges old.marks_and_edges.acyclic (λ a b c d n. absurd n);
     name_gained = λ k p lt d h. elim (cases_eq k l) [
@@ -209,15 +201,7 @@ module _ (lay : Layout) (known : Known) (top : ℕ) (w v : World) (l o p : ℕ) 
 
   pub write_edits : Edits lay top w v
   write_edits = record {
-    newest = x.rest.newest;
-    possible = x.rest.possible;
-    cached_clean = x.rest.cached_clean;
-    hung = x.rest.hung;
-    dirty_kept = x.rest.dirty_kept;
-    live_kept = x.rest.live_kept;
-    barred_kept = x.rest.barred_kept;
-    live_ends = x.rest.live_ends;
-    barred_ends = x.rest.barred_ends;
+    rest = x.rest;
     kinds = kinds_kept lay w v _ _ x.edges (mandatory_kind lay w l p x.released.in_range x.is_data) (mandatory_kind lay w l p x.released.in_range x.is_data);
     acyclic = acyclic_kept lay w v _ _ x.edges old.marks_and_edges.acyclic (mandatory_open lay w l p x.released.in_range x.is_data apart old.edge_kinds x.no_cycle);
     name_gained = λ k q lt d h. elim (cases_eq k l) [

@@ -8,8 +8,8 @@ use Rattle.engine_model.specs.Invariant.{EngineInvariant, Moment, ToldBirths, kn
 use Rattle.engine_model.specs.Known.{Known, Tells}
 use Rattle.engine_model.specs.Edits.{CacheOnly, ContentEdits, Edits, Ordered}
 use Rattle.engine_model.specs.Commands.{Released}
-use Rattle.engine_model.specs.SmallSteps.{CanName, GainsOrHolds, IsBacked, held_by, named}
-use Rattle.engine_model.proofs.Quiet.{map_table, put_formed, put_here, put_other, put_rest}
+use Rattle.engine_model.specs.SmallSteps.{CanName, GainsOrHolds, IsBacked, held_by, named, pushed, put}
+use Rattle.engine_model.proofs.Quiet.{map_table, put_formed, put_here, put_other, put_rest, queue_rest}
 use Rattle.engine_model.proofs.Renamed.{names_gained, names_lost, names_other, name_lost, one_hung, queue_here, queue_in_range, queue_other, still, zero_dirty}
 use Rattle.engine_model.proofs.Schedule.{tells}
 use Rattle.engine_model.proofs.Whole.{edits_keep_all, pool_untold}
@@ -49,17 +49,7 @@ module _ (lay : Layout) (top : ℕ) (sound : Bool) (apart : Apart lay) (m : Mome
   data_same q d = away (lay.data_page q) (λ e. apart.table_data (lay.map_page l) q (map_table lay l can.in_range) d (sym e))
 
   rest : CacheOnly lay w v
-  rest = let r = put_rest lay w (lay.map_page l) c can.dirty in record {
-    newest = r.newest;
-    possible = r.possible;
-    cached_clean = r.cached_clean;
-    hung = r.hung;
-    dirty_kept = r.dirty_kept;
-    live_kept = r.live_kept;
-    barred_kept = r.barred_kept;
-    live_ends = r.live_ends;
-    barred_ends = r.barred_ends;
-  }
+  rest = queue_rest lay w (put (lay.map_page l) c w) (pushed known l o w.queue) (put_rest lay w (lay.map_page l) c can.dirty)
 
   released : Released lay known w v l o
   released = record {
@@ -113,15 +103,7 @@ module _ (lay : Layout) (top : ℕ) (sound : Bool) (apart : Apart lay) (m : Mome
 
   edits : Edits lay top w v
   edits = record {
-    newest = rest.newest;
-    possible = rest.possible;
-    cached_clean = rest.cached_clean;
-    hung = rest.hung;
-    dirty_kept = rest.dirty_kept;
-    live_kept = rest.live_kept;
-    barred_kept = rest.barred_kept;
-    live_ends = rest.live_ends;
-    barred_ends = rest.barred_ends;
+    rest = rest;
     kinds = λ a b h. inl h;
     acyclic = k.counts.marks_and_edges.acyclic;
     name_gained = λ j q lt d h. elim (cases_eq j l) [

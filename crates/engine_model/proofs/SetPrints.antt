@@ -53,15 +53,7 @@ module _ (lay : Layout) (top : ℕ) (sound : Bool) (apart : Apart lay) (m : Mome
 
     edits : Edits lay top w v
     edits = record {
-      newest = rest.newest;
-      possible = rest.possible;
-      cached_clean = rest.cached_clean;
-      hung = rest.hung;
-      dirty_kept = rest.dirty_kept;
-      live_kept = rest.live_kept;
-      barred_kept = rest.barred_kept;
-      live_ends = rest.live_ends;
-      barred_ends = rest.barred_ends;
+      rest = rest;
       kinds = λ a b h. inl h;
       acyclic = k.counts.marks_and_edges.acyclic;
       name_gained = λ l q lt d h. inl (sym (names l lt) ∙ h);

@@ -50,7 +50,7 @@ can_name = record {
   other = λ e. omega (arith, e);
   sets = sets_name (0 ∷ []) 1;
   dirty = refl;
-  backed = inr (record { is_data = is_data; spare = omega arith; count_first = refl; data_first = record { dirty = λ d. refl; hung = λ h. absurd (true≢false (sym h)) } });
+  backed = inr (record { spare = omega arith; count_first = refl; data_first = record { dirty = λ d. refl; hung = λ h. absurd (true≢false (sym h)) } });
 }
 
 pub can_unname : CanName printed name_set.world 0 1 0 (0 ∷ [])

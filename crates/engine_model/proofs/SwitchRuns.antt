@@ -1,7 +1,9 @@
 -- A change of the version as a run of moments: what is kept at each, and what is handed back.
 use Rattle.std.proofs.Common.{◌≡◌, ◌≢◌, inl, inr, ℕ, Bool, true, false, cond, refl, sym, ap, ◌∙◌, subst, List, [], ◌∷◌, true≢false}
 use Rattle.std.proofs.lemmas.Bool.{cases_Bool, false_from_ne_true}
-use Rattle.engine_model.specs.World.{Agree, Layout, Possible}
+use Rattle.engine_model.specs.SmallSteps.{placed}
+use Rattle.engine_model.proofs.Quiet.{put_other, touched_here, touched_other}
+use Rattle.engine_model.specs.World.{Agree, Layout, Possible, World}
 use Rattle.engine_model.specs.Entries.{IsData, IsTable}
 use Rattle.engine_model.specs.Births.{Call, Fixed, IsSlot, Name, NothingRecorded, Print, Slot, is_changed, place_of, since, wrote_last}
 use Rattle.engine_model.specs.Contents.{ContentsInvariant}
@@ -152,3 +154,17 @@ module _ (lay : Layout) (top : ℕ) (sound : Bool) (next : List ℕ) (was : Mome
     switch_ends ns r done stamped =
         let h = last_held was ns start_held r in
         (end_kept (last_of was ns) h done stamped, λ c q. h.world.settled 0 c (inl refl) (done 0).0 (done 0).1 q ∙ stamped)
+
+-- a page that gets another content and is dirty
+pub placed_edited : (w : World) (page : ℕ) (c : List ℕ) → Edited w (placed page c w) page
+placed_edited w page c = record {
+  newest = λ a. refl;
+  possible = λ a d q. q;
+  cached = λ a ne. put_other w page c a ne;
+  dirty = λ a ne. touched_other w page a ne;
+  dirty_here = touched_here w page;
+  hung = λ a. refl;
+  live = λ a b. refl;
+  barred = λ a b. refl;
+  queue = refl;
+}

@@ -25,15 +25,7 @@ pub record NewEdges (w v : World) (New Hung : ℕ → ℕ → Type 0) : Type 0 w
 
 -- What edits are to do: the device stays, marks and edges only grow, and each entry that is gained or lost has its edge or its release.
 pub record Edits (lay : Layout) (top : ℕ) (w v : World) : Type 0 where
-  pub newest : (page : ℕ) → v.newest page ≡ w.newest page
-  pub possible : (page : ℕ) (c : List ℕ) → Possible v page c → Possible w page c
-  pub cached_clean : (page : ℕ) → IsTable lay page → v.dirty page ≡ false → v.cached page ≡ w.cached page
-  pub hung : (a : ℕ) → v.hung a ≡ w.hung a
-  pub dirty_kept : (a : ℕ) → w.dirty a ≡ true → v.dirty a ≡ true
-  pub live_kept : (a b : ℕ) → w.live a b ≡ true → v.live a b ≡ true
-  pub barred_kept : (a b : ℕ) → w.barred a b ≡ true → v.barred a b ≡ true
-  pub live_ends : (a b : ℕ) → v.live a b ≡ true → (w.live a b ≡ true) ⊎ ((v.dirty a ≡ true) × (v.dirty b ≡ true))
-  pub barred_ends : (a b : ℕ) → v.barred a b ≡ true → (w.barred a b ≡ true) ⊎ ((v.hung a ≡ true) × (v.dirty b ≡ true))
+  pub rest : CacheOnly lay w v
   pub kinds : (a b : ℕ) → HasEdge v a b → HasEdge w a b ⊎ EdgeKind lay a b
   pub acyclic : IsAcyclic v.live
   -- count before map

@@ -1,3 +1,4 @@
+-- The definitions, from the plain state up to whole runs; the last files hold concrete states.
 pub mod World
 pub mod Entries
 pub mod Paths

@@ -75,7 +75,6 @@ pub record CanPrint (lay : Layout) (w : World) (p : ℕ) (c print : List ℕ) : 
 
 -- p may be named by l: its count has room for one name more and goes out before, and so does its data page
 pub record IsBacked (lay : Layout) (w : World) (l p : ℕ) : Type 0 where
-  pub is_data : IsData lay p
   pub spare : cached_names lay w p + queued w.queue p < cached_count lay w p
   pub count_first : w.live (lay.count_page p) (lay.map_page l) ≡ true
   pub data_first : Ordered w (lay.data_page p) (lay.map_page l)
