@@ -102,9 +102,10 @@ module _ (lay : Layout) (top : ℕ) (w : World) (rest : AtRest w) where
       settled = λ c pos y z q. rest.one _ c q;
       clean = λ y. sym (rest.cached _);
     };
-    named_data_fixed = λ p d. record {
-      named = λ l lt n. record { one = rest.one _; clean = rest.dirty _; fixed = rest.hung _ };
-      printed = λ print n. record { one = rest.one _; clean = rest.dirty _; fixed = rest.hung _ };
+    named_data_fixed = λ p d. record { named = λ l lt n. record { one = rest.one _ }; printed = λ print n. record { one = rest.one _ } };
+    named_data_stands = λ p d. record {
+      named = λ l lt n. record { clean = rest.dirty _; fixed = rest.hung _ };
+      printed = λ print n. record { clean = rest.dirty _; fixed = rest.hung _ };
     };
     reads = λ l lt. record {
       unmapped = λ n. (fit.reads l lt).unmapped (may_name 0 l n);
@@ -135,6 +136,7 @@ module _ (lay : Layout) (sound : Bool) (array after : ℕ → List (List ℕ)) (
   flush_contents = record {
     fresh_data_first = old.fresh_data_first;
     named_data_fixed = old.named_data_fixed;
+    named_data_stands = old.named_data_stands;
     reads = λ l lt. let was = old.reads l lt in record {
       unmapped = λ n. subst (λ xs. Has lay.zero_block xs) (sym (alone l lt _ (was.cached_unmapped (kept_name 0 l lt n)))) (inl refl);
       mapped = λ p d n. subst (λ xs. Has (w.newest (lay.data_page p)) xs) (sym (alone l lt _ (was.cached_mapped p d (kept_name p l lt n)))) (inl ((old.fresh_data_first p d).clean (clean _)));

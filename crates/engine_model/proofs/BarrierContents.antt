@@ -2,7 +2,8 @@
 use Rattle.std.proofs.Common.{◌≡◌, inl, ℕ, Bool, sym, ap, ◌∙◌, subst, List, true≢false}
 use Rattle.engine_model.specs.World.{Layout, World, Has}
 use Rattle.engine_model.specs.Entries.{MayName, MayPrint, IsData, cached_name, cached_print}
-use Rattle.engine_model.specs.Contents.{ContentsInvariant, DataOrdered, Stands, Last}
+use Rattle.engine_model.specs.Contents.{ContentsInvariant, DataOrdered, NamedFixed, NamedStands, Last}
+use Rattle.engine_model.proofs.Named.{Kept, named_kept, named_parts, printed_kept}
 use Rattle.engine_model.proofs.Views.{name_same, print_same}
 use Rattle.engine_model.specs.DeviceSteps.{Barrier}
 
@@ -19,8 +20,11 @@ module _ (lay : Layout) (sound : Bool) (array : ℕ → List (List ℕ)) (w v : 
   may_print : (p : ℕ) (print : List ℕ) → MayPrint lay v p print → MayPrint lay w p print
   may_print p print n = record { content = n.content; possible = inl (b.possible _ n.content n.possible); has = n.has }
 
-  stands : (p : ℕ) → Stands lay w p → Stands lay v p
-  stands p s = record { one = λ c q. b.possible _ c q ∙ sym (b.newest _); clean = b.dirty _ ∙ s.clean; fixed = b.hung _ }
+  kept : (p : ℕ) → Kept lay w p → Kept lay v p
+  kept p s = (record { one = λ c q. b.possible _ c q ∙ sym (b.newest _) }, record { clean = b.dirty _ ∙ s.1.clean; fixed = b.hung _ })
+
+  named : (p : ℕ) → IsData lay p → NamedFixed lay v p × NamedStands lay v p
+  named p d = named_parts lay v p (λ l lt n. kept p (named_kept lay sound array w old p d l lt (may_name p l n))) (λ print n. kept p (printed_kept lay sound array w old p d print (may_print p print n)))
 
   fresh_data_first : (p : ℕ) → IsData lay p → DataOrdered lay v p
   fresh_data_first p d = record {
@@ -35,10 +39,8 @@ module _ (lay : Layout) (sound : Bool) (array : ℕ → List (List ℕ)) (w v : 
   pub barrier_contents : ContentsInvariant lay sound array v
   barrier_contents = record {
     fresh_data_first = fresh_data_first;
-    named_data_fixed = λ p d. record {
-      named = λ l lt n. stands p ((old.named_data_fixed p d).named l lt (may_name p l n));
-      printed = λ print n. stands p ((old.named_data_fixed p d).printed print (may_print p print n));
-    };
+    named_data_fixed = λ p d. (named p d).0;
+    named_data_stands = λ p d. (named p d).1;
     reads = λ l lt. record {
       unmapped = λ n. (old.reads l lt).unmapped (may_name 0 l n);
       mapped = λ p d n. subst (λ c. Has c (array l)) (sym (b.newest (lay.data_page p))) ((old.reads l lt).mapped p d (may_name p l n));

@@ -9,10 +9,10 @@ use Rattle.engine_model.specs.Contents.{ContentsInvariant}
 
 module _ (lay : Layout) (sound : Bool) (array : ℕ → List (List ℕ)) (w : World) (c : ContentsInvariant lay sound array w) (p : ℕ) (d : IsData lay p) (dirty : w.dirty (lay.data_page p) ≡ true) where
   pub dirty_no_name : (l : ℕ) → l < lay.blocks → MayName lay w p l → ⊥
-  dirty_no_name l lt n = true≢false (sym dirty ∙ ((c.named_data_fixed p d).named l lt n).clean)
+  dirty_no_name l lt n = true≢false (sym dirty ∙ ((c.named_data_stands p d).named l lt n).clean)
 
   pub dirty_no_print : (print : List ℕ) → MayPrint lay w p print → ⊥
-  dirty_no_print print n = true≢false (sym dirty ∙ ((c.named_data_fixed p d).printed print n).clean)
+  dirty_no_print print n = true≢false (sym dirty ∙ ((c.named_data_stands p d).printed print n).clean)
 
 pub drained_stages : (lay : Layout) (top : ℕ) (w : World) → CountsInvariant lay top w → ((a : ℕ) → w.dirty a ≡ false) → ((a : ℕ) → w.hung a ≡ false)
     → (l p : ℕ) → l < lay.blocks → Queued w.queue l p 0 ⊎ Queued w.queue l p 1 → ⊥

@@ -4,11 +4,12 @@ use Rattle.std.proofs.lemmas.Bool.{cases_eq, false_from_ne_true}
 use Rattle.engine_model.specs.World.{Layout, World}
 use Rattle.engine_model.specs.Counts.{CountsInvariant}
 use Rattle.engine_model.specs.Entries.{MayName, MayPrint, HasEdge, NoEdge, IsData, cached_name, cached_count, cached_print, cached_names}
-use Rattle.engine_model.specs.Contents.{ContentsInvariant, DataOrdered, Stands}
+use Rattle.engine_model.specs.Contents.{ContentsInvariant, DataOrdered, NamedFixed, NamedStands}
 use Rattle.engine_model.specs.Drops.{Dropped}
 use Rattle.engine_model.specs.Entries.{Apart}
 use Rattle.engine_model.specs.Births.{BirthKnown, Call, IsSlot, Name, Print, Slot, cached_value, place_of, value_in}
 use Rattle.engine_model.specs.Pool.{PoolKnows, Told}
+use Rattle.engine_model.proofs.Named.{Kept, named_kept, named_parts, printed_kept}
 use Rattle.engine_model.proofs.Views.{names_by, newest_name_same, newest_count_same, newest_print_same}
 use Rattle.engine_model.proofs.WriteContents.{name_counted}
 use Rattle.engine_model.proofs.Graphs.{acyclic_fewer}
@@ -166,10 +167,13 @@ module _ (lay : Layout) (top : ℕ) (w v : World) (p : ℕ) (apart : Apart lay) 
   still_clean : (a : ℕ) → w.dirty a ≡ false → v.dirty a ≡ false
   still_clean a c = elim (cases_eq a (lay.data_page p)) [ inl e ↦ ap v.dirty e ∙ x.dirty_gone | inr ne ↦ x.dirty a ne ∙ c ]
 
-  stands : (q : ℕ) → Stands lay w q → Stands lay v q
-  stands q s = record { one = λ c z. s.one c (x.possible _ c z) ∙ sym (x.newest _); clean = still_clean _ s.clean; fixed = x.hung _ ∙ s.fixed }
+  kept : (q : ℕ) → Kept lay w q → Kept lay v q
+  kept q s = (record { one = λ c z. s.0.one c (x.possible _ c z) ∙ sym (x.newest _) }, record { clean = still_clean _ s.1.clean; fixed = x.hung _ ∙ s.1.fixed })
 
   module _ (sound : Bool) (array : ℕ → List (List ℕ)) (was : ContentsInvariant lay sound array w) where
+    named : (q : ℕ) → IsData lay q → NamedFixed lay v q × NamedStands lay v q
+    named q d = named_parts lay v q (λ l lt n. kept q (named_kept lay sound array w was q d l lt (may_name q l n))) (λ print n. kept q (printed_kept lay sound array w was q d print (may_print q print n)))
+
     ordered : (q : ℕ) → IsData lay q → DataOrdered lay v q
     ordered q d = elim (cases_eq q p) [
       | inl e ↦ record {
@@ -193,10 +197,8 @@ module _ (lay : Layout) (top : ℕ) (w v : World) (p : ℕ) (apart : Apart lay) 
     pub drop_contents : ContentsInvariant lay sound array v
     drop_contents = record {
       fresh_data_first = ordered;
-      named_data_fixed = λ q d. record {
-        named = λ l lt n. stands q ((was.named_data_fixed q d).named l lt (may_name q l n));
-        printed = λ print n. stands q ((was.named_data_fixed q d).printed print (may_print q print n));
-      };
+      named_data_fixed = λ q d. (named q d).0;
+      named_data_stands = λ q d. (named q d).1;
       reads = λ l lt. record {
         unmapped = λ n. (was.reads l lt).unmapped (may_name 0 l n);
         mapped = λ q d n. rw x.newest ((was.reads l lt).mapped q d (may_name q l n));

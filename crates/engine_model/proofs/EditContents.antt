@@ -4,9 +4,10 @@ use Rattle.std.proofs.lemmas.Bool.{false_from_ne_true}
 use Rattle.engine_model.specs.World.{Layout, World}
 use Rattle.engine_model.specs.Counts.{CountsInvariant}
 use Rattle.engine_model.specs.Entries.{MayName, MayPrint, HasEdge, IsData, cached_name, cached_print}
-use Rattle.engine_model.specs.Contents.{ContentsInvariant, DataOrdered, Stands, Reads}
+use Rattle.engine_model.specs.Contents.{ContentsInvariant, DataOrdered, NamedFixed, NamedStands, Reads}
 use Rattle.engine_model.specs.Known.{Free}
 use Rattle.engine_model.specs.Edits.{ContentEdits}
+use Rattle.engine_model.proofs.Named.{Kept, named_kept, named_parts, printed_kept}
 use Rattle.engine_model.proofs.Counting.{count_has}
 use Rattle.engine_model.proofs.Lasts.{has_push, last_push}
 use Rattle.engine_model.proofs.WriteContents.{name_counted}
@@ -48,12 +49,19 @@ module _ (lay : Layout) (top : ℕ) (sound : Bool) (before after : ℕ → List 
   edge_kept a b (inl l) = inl (e.rest.live_kept a b l)
   edge_kept a b (inr r) = inr (e.rest.barred_kept a b r)
 
-  stands : (p : ℕ) → IsData lay p → (Free lay w p → ⊥) → Stands lay w p → Stands lay v p
-  stands p d taken s = record {
-    one = λ c q. s.one c (e.rest.possible _ c q) ∙ sym (e.rest.newest _);
-    fixed = e.rest.hung _ ∙ s.fixed;
-    clean = false_from_ne_true _ (λ y. elim (e.dirty_fresh p d y) [ inl was ↦ true≢false (sym was ∙ s.clean) | inr f ↦ taken f ]);
-  }
+  kept : (p : ℕ) → IsData lay p → (Free lay w p → ⊥) → Kept lay w p → Kept lay v p
+  kept p d taken s = (
+    record { one = λ c q. s.0.one c (e.rest.possible _ c q) ∙ sym (e.rest.newest _) },
+    record {
+      fixed = e.rest.hung _ ∙ s.1.fixed;
+      clean = false_from_ne_true _ (λ y. elim (e.dirty_fresh p d y) [ inl was ↦ true≢false (sym was ∙ s.1.clean) | inr f ↦ taken f ]);
+    },
+  )
+
+  named : (p : ℕ) → IsData lay p → NamedFixed lay v p × NamedStands lay v p
+  named p d = named_parts lay v p
+      (λ l lt n. let may = may_name p l n in kept p d (λ f. free_no_name lay top w first p d f l lt may) (named_kept lay sound before w old p d l lt may))
+      (λ print n. let may = may_print p print n in kept p d (λ f. free_no_print lay top w first p d f print may) (printed_kept lay sound before w old p d print may))
 
   -- a page that is not free has its content
   same_content : (p : ℕ) → IsData lay p → (Free lay w p → ⊥) → v.cached (lay.data_page p) ≡ w.cached (lay.data_page p)
@@ -115,10 +123,8 @@ module _ (lay : Layout) (top : ℕ) (sound : Bool) (before after : ℕ → List 
   pub edit_contents : ContentsInvariant lay sound after v
   edit_contents = record {
     fresh_data_first = fresh_data_first;
-    named_data_fixed = λ p d. record {
-      named = λ l lt n. let may = may_name p l n in stands p d (λ f. free_no_name lay top w first p d f l lt may) ((old.named_data_fixed p d).named l lt may);
-      printed = λ print n. let may = may_print p print n in stands p d (λ f. free_no_print lay top w first p d f print may) ((old.named_data_fixed p d).printed print may);
-    };
+    named_data_fixed = λ p d. (named p d).0;
+    named_data_stands = λ p d. (named p d).1;
     reads = reads;
     prints_true = λ s p d. record {
       possible = λ print n. (old.prints_true s p d).possible print (may_print p print n) ∙ ap lay.finger (sym (e.rest.newest _));

@@ -1,5 +1,6 @@
 pub mod Counting
 pub mod Views
+pub mod Named
 pub mod Barrier
 pub mod Images
 pub mod Stages

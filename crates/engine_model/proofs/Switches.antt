@@ -403,9 +403,10 @@ module _ (lay : Layout) (top : ℕ) (sound : Bool) (array : ℕ → List (List �
           clean = λ y. (data_kept p d).newest ∙ (contents.fresh_data_first p d).clean (clean _).0 ∙ sym (data_kept p d).cached;
         };
         named_data_fixed = λ p d. record {
-          named = λ l lt n. record { one = λ c q. ((contents.named_data_fixed p d).named l lt (new_name p l lt n)).one c ((data_kept p d).possible c q) ∙ sym (data_kept p d).newest; clean = (done _).0; fixed = (done _).1 };
+          named = λ l lt n. record { one = λ c q. ((contents.named_data_fixed p d).named l lt (new_name p l lt n)).one c ((data_kept p d).possible c q) ∙ sym (data_kept p d).newest };
           printed = λ print n. absurd (no_print p print d n);
         };
+        named_data_stands = λ p d. record { named = λ l lt n. record { clean = (done _).0; fixed = (done _).1 }; printed = λ print n. absurd (no_print p print d n) };
         reads = λ l lt. record {
           unmapped = λ n. (contents.reads l lt).unmapped (new_name 0 l lt n);
           mapped = λ p d n. subst (λ c. Has c (array l)) (sym (data_kept p d).newest) ((contents.reads l lt).mapped p d (new_name p l lt n));

@@ -4,7 +4,8 @@ use Rattle.std.proofs.lemmas.Bool.{cases_eq, false_from_ne_true}
 use Rattle.engine_model.specs.World.{Layout, World, Has}
 use Rattle.engine_model.specs.Counts.{CountsInvariant}
 use Rattle.engine_model.specs.Entries.{MayName, MayPrint, HasEdge, IsData, cached_name, cached_count, cached_print, cached_names}
-use Rattle.engine_model.specs.Contents.{ContentsInvariant, DataOrdered, Stands, Last}
+use Rattle.engine_model.specs.Contents.{ContentsInvariant, DataOrdered, NamedFixed, NamedStands, Last}
+use Rattle.engine_model.proofs.Named.{Kept, named_kept, named_parts, printed_kept}
 use Rattle.engine_model.proofs.Counting.{count_has}
 use Rattle.engine_model.proofs.Lasts.{last_has}
 use Rattle.engine_model.proofs.Views.{name_same, count_same, print_same}
@@ -49,30 +50,33 @@ module _ (lay : Layout) (top : ℕ) (sound : Bool) (array : ℕ → List (List �
   still_clean : (a : ℕ) → w.dirty a ≡ false → v.dirty a ≡ false
   still_clean a c = false_from_ne_true _ (λ d. true≢false (sym (m.dirty_old a d) ∙ c))
 
-  stands : (p : ℕ) → Stands lay w p → Stands lay v p
-  stands p s = record {
-    one = λ c q. elim (t.possible (lay.data_page p) c q) [
-      | inl q ↦ s.one c q ∙ sym (newest_there _ s.clean)
-      | inr q ↦ absurd (not_here _ s.clean q.0)
-    ];
-    clean = still_clean _ s.clean;
-    fixed = false_from_ne_true _ (λ y. elim (m.hung_old _ y) [ inl h ↦ true≢false (sym h ∙ s.fixed) | inr e ↦ not_here _ s.clean e ]);
-  }
+  kept : (p : ℕ) → Kept lay w p → Kept lay v p
+  kept p s = (
+    record {
+      one = λ c q. elim (t.possible (lay.data_page p) c q) [
+        | inl q ↦ s.0.one c q ∙ sym (newest_there _ s.1.clean)
+        | inr q ↦ absurd (not_here _ s.1.clean q.0)
+      ];
+    },
+    record {
+      clean = still_clean _ s.1.clean;
+      fixed = false_from_ne_true _ (λ y. elim (m.hung_old _ y) [ inl h ↦ true≢false (sym h ∙ s.1.fixed) | inr e ↦ not_here _ s.1.clean e ]);
+    },
+  )
 
   -- what the written page names in the cache is settled
-  settled_here : (p : ℕ) → IsData lay p → 0 < cached_count lay w p → (w.dirty (lay.data_page p) ≡ true → ⊥) → (w.hung (lay.data_page p) ≡ true → ⊥) → Stands lay w p
-  settled_here p d pos nd nh = record {
-    one = λ c q. (old.fresh_data_first p d).settled c pos (false_from_ne_true _ nd) (false_from_ne_true _ nh) q;
-    clean = false_from_ne_true _ nd;
-    fixed = false_from_ne_true _ nh;
-  }
+  settled_here : (p : ℕ) → IsData lay p → 0 < cached_count lay w p → (w.dirty (lay.data_page p) ≡ true → ⊥) → (w.hung (lay.data_page p) ≡ true → ⊥) → Kept lay w p
+  settled_here p d pos nd nh = (
+    record { one = λ c q. (old.fresh_data_first p d).settled c pos (false_from_ne_true _ nd) (false_from_ne_true _ nh) q },
+    record { clean = false_from_ne_true _ nd; fixed = false_from_ne_true _ nh },
+  )
 
-  named_here : (p l : ℕ) → l < lay.blocks → IsData lay p → lay.map_page l ≡ page → cached_name lay w l ≡ p → Stands lay w p
+  named_here : (p l : ℕ) → l < lay.blocks → IsData lay p → lay.map_page l ≡ page → cached_name lay w l ≡ p → Kept lay w p
   named_here p l lt d at n = settled_here p d (name_counted lay top w first l p lt d n)
       (λ y. free_of (lay.data_page p) (lay.map_page l) at (inl ((old.fresh_data_first p d).name_dirty l lt n y)))
       (λ y. free_of (lay.data_page p) (lay.map_page l) at ((old.fresh_data_first p d).name_hung l lt n y))
 
-  printed_here : (p : ℕ) (print : List ℕ) → IsData lay p → lay.print_page p ≡ page → cached_print lay w p ≡ Some print → Stands lay w p
+  printed_here : (p : ℕ) (print : List ℕ) → IsData lay p → lay.print_page p ≡ page → cached_print lay w p ≡ Some print → Kept lay w p
   printed_here p print d at n = settled_here p d (first.print_needs_count p print d n)
       (λ y. free_of (lay.data_page p) (lay.print_page p) at (inl ((old.fresh_data_first p d).print_dirty print n y)))
       (λ y. free_of (lay.data_page p) (lay.print_page p) at ((old.fresh_data_first p d).print_hung print n y))
@@ -102,25 +106,26 @@ module _ (lay : Layout) (top : ℕ) (sound : Bool) (array : ℕ → List (List �
     ];
   }
 
-  stands_named : (p l : ℕ) → l < lay.blocks → IsData lay p → MayName lay v p l → Stands lay w p
+  stands_named : (p l : ℕ) → l < lay.blocks → IsData lay p → MayName lay v p l → Kept lay w p
   stands_named p l lt d n = elim (may_name p l n) [
-    | inl q ↦ (old.named_data_fixed p d).named l lt q
+    | inl q ↦ named_kept lay sound array w old p d l lt q
     | inr q ↦ named_here p l lt d q.0 q.1
   ]
 
-  stands_printed : (p : ℕ) (print : List ℕ) → IsData lay p → MayPrint lay v p print → Stands lay w p
+  stands_printed : (p : ℕ) (print : List ℕ) → IsData lay p → MayPrint lay v p print → Kept lay w p
   stands_printed p print d n = elim (may_print p print n) [
-    | inl q ↦ (old.named_data_fixed p d).printed print q
+    | inl q ↦ printed_kept lay sound array w old p d print q
     | inr q ↦ printed_here p print d q.0 q.1
   ]
+
+  named : (p : ℕ) → IsData lay p → NamedFixed lay v p × NamedStands lay v p
+  named p d = named_parts lay v p (λ l lt n. kept p (stands_named p l lt d n)) (λ print n. kept p (stands_printed p print d n))
 
   pub write_contents : ContentsInvariant lay sound array v
   write_contents = record {
     fresh_data_first = fresh_data_first;
-    named_data_fixed = λ p d. record {
-      named = λ l lt n. stands p (stands_named p l lt d n);
-      printed = λ print n. stands p (stands_printed p print d n);
-    };
+    named_data_fixed = λ p d. (named p d).0;
+    named_data_stands = λ p d. (named p d).1;
     reads = λ l lt. record {
       unmapped = λ n. elim (may_name 0 l n) [
         | inl q ↦ (old.reads l lt).unmapped q
@@ -128,9 +133,9 @@ module _ (lay : Layout) (top : ℕ) (sound : Bool) (array : ℕ → List (List �
       ];
       mapped = λ p d n.
           let s = stands_named p l lt d n in
-          subst (λ c. Has c (array l)) (sym (newest_there _ s.clean)) (elim (may_name p l n) [
+          subst (λ c. Has c (array l)) (sym (newest_there _ s.1.clean)) (elim (may_name p l n) [
             | inl q ↦ (old.reads l lt).mapped p d q
-            | inr q ↦ subst (λ c. Has c (array l)) (sym ((old.fresh_data_first p d).clean s.clean)) (last_has _ _ ((old.reads l lt).cached_mapped p d q.1))
+            | inr q ↦ subst (λ c. Has c (array l)) (sym ((old.fresh_data_first p d).clean s.1.clean)) (last_has _ _ ((old.reads l lt).cached_mapped p d q.1))
           ]);
       cached_unmapped = λ n. (old.reads l lt).cached_unmapped (sym (name l) ∙ n);
       cached_mapped = λ p d n. subst (λ c. Last (array l) c) (sym (t.cached (lay.data_page p))) ((old.reads l lt).cached_mapped p d (sym (name l) ∙ n));
@@ -139,8 +144,8 @@ module _ (lay : Layout) (top : ℕ) (sound : Bool) (array : ℕ → List (List �
       possible = λ print n.
           let stand = stands_printed p print d n in
           elim (may_print p print n) [
-            | inl q ↦ (old.prints_true s p d).possible print q ∙ ap lay.finger (sym (newest_there _ stand.clean))
-            | inr q ↦ (old.prints_true s p d).cached print q.1 ∙ ap lay.finger (sym ((old.fresh_data_first p d).clean stand.clean) ∙ sym (newest_there _ stand.clean))
+            | inl q ↦ (old.prints_true s p d).possible print q ∙ ap lay.finger (sym (newest_there _ stand.1.clean))
+            | inr q ↦ (old.prints_true s p d).cached print q.1 ∙ ap lay.finger (sym ((old.fresh_data_first p d).clean stand.1.clean) ∙ sym (newest_there _ stand.1.clean))
           ];
       cached = λ print n. (old.prints_true s p d).cached print (sym (print_is p) ∙ n) ∙ ap lay.finger (sym (t.cached _));
     };

@@ -23,13 +23,21 @@ pub record DataOrdered (lay : Layout) (w : World) (p : ℕ) : Type 0 where
       → Possible w (lay.data_page p) c → c ≡ w.newest (lay.data_page p)
   pub clean : w.dirty (lay.data_page p) ≡ false → w.newest (lay.data_page p) ≡ w.cached (lay.data_page p)
 
--- p's data page stands as it is: it has one possible content, and is no node
-pub record Stands (lay : Layout) (w : World) (p : ℕ) : Type 0 where
+-- p's data page has one possible content
+pub record IsFixed (lay : Layout) (w : World) (p : ℕ) : Type 0 where
   pub one : (c : List ℕ) → Possible w (lay.data_page p) c → c ≡ w.newest (lay.data_page p)
+
+-- p's data page is no node
+pub record Stands (lay : Layout) (w : World) (p : ℕ) : Type 0 where
   pub clean : w.dirty (lay.data_page p) ≡ false
   pub fixed : w.hung (lay.data_page p) ≡ false
 
--- a data page that a possible map or print page names stands as it is
+-- a data page that a possible map page names, or that has a print in a possible print page, has one possible content
+pub record NamedFixed (lay : Layout) (w : World) (p : ℕ) : Type 0 where
+  pub named : (l : ℕ) → l < lay.blocks → MayName lay w p l → IsFixed lay w p
+  pub printed : (print : List ℕ) → MayPrint lay w p print → IsFixed lay w p
+
+-- and is no node
 pub record NamedStands (lay : Layout) (w : World) (p : ℕ) : Type 0 where
   pub named : (l : ℕ) → l < lay.blocks → MayName lay w p l → Stands lay w p
   pub printed : (print : List ℕ) → MayPrint lay w p print → Stands lay w p
@@ -60,7 +68,8 @@ pub record FirstPage (w : World) : Type 0 where
 -- what is kept of contents; sound says whether the session began Sound
 pub record ContentsInvariant (lay : Layout) (sound : Bool) (array : ℕ → List (List ℕ)) (w : World) : Type 0 where
   pub fresh_data_first : (p : ℕ) → IsData lay p → DataOrdered lay w p
-  pub named_data_fixed : (p : ℕ) → IsData lay p → NamedStands lay w p
+  pub named_data_fixed : (p : ℕ) → IsData lay p → NamedFixed lay w p
+  pub named_data_stands : (p : ℕ) → IsData lay p → NamedStands lay w p
   pub reads : (l : ℕ) → l < lay.blocks → Reads lay w array l
   pub prints_true : sound ≡ true → (p : ℕ) → IsData lay p → PrintsTrue lay w p
   pub well_formed : WellFormed lay w
