@@ -3,8 +3,7 @@ use Rattle.std.proofs.Common.{◌≡◌, ◌⊎◌, inl, inr, ◌+◌, ◌<◌, 
 use Rattle.std.proofs.lemmas.Bool.{cases_eq, false_from_ne_true}
 use Rattle.engine_model.specs.World.{Layout, World, Possible, queued}
 use Rattle.engine_model.specs.Counts.{CountsInvariant, Covered}
-use Rattle.engine_model.specs.Entries.{IsData, MayPrint, NoEdge, cached_name, cached_count, cached_print, cached_names}
-use Rattle.engine_model.specs.Entries.{Apart}
+use Rattle.engine_model.specs.Entries.{IsData, MayPrint, NoEdge, cached_name, cached_count, cached_print, cached_names, Apart}
 use Rattle.engine_model.specs.Corrections.{Corrected}
 use Rattle.engine_model.proofs.NewEdges.{kinds_kept, acyclic_kept}
 use Rattle.engine_model.proofs.Graphs.{way_ends}

@@ -1,5 +1,5 @@
 -- The device's steps as functions are steps.
-use Rattle.std.proofs.Common.{◌≡◌, ◌⊎◌, inl, inr, ℕ, Bool, cond, refl, ap, ◌∙◌, subst, List, [], ◌∷◌, ◌++◌, eqb, eq-eqb, ne_eqb}
+use Rattle.std.proofs.Common.{◌≡◌, inl, inr, ℕ, Bool, cond, refl, ap, ◌∙◌, subst, List, [], ◌∷◌, eqb, eq-eqb, ne_eqb}
 use Rattle.std.proofs.lemmas.Bool.{cases_eq}
 use Rattle.engine_model.specs.World.{Layout, World, Has}
 use Rattle.engine_model.specs.Entries.{Apart}

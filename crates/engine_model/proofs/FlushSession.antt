@@ -1,7 +1,6 @@
 -- The flush in small is a run of steps, and so is the change of the version after it.
 use Rattle.std.proofs.Common.{◌≡◌, inl, inr, ◌<◌, ℕ, Bool, true, false, not, ◌||◌, ◌&&◌, arith, refl, sym, ap, subst, List, [], ◌∷◌, eqb, ne_eqb}
 use Rattle.std.proofs.Math.Bool.{and-false}
-use Rattle.engine_model.specs.World.{World}
 use Rattle.engine_model.specs.Contents.{Last}
 use Rattle.engine_model.specs.Births.{Slot, Name, Print, IsSlot, Leads, cached_value}
 use Rattle.engine_model.specs.DeviceSteps.{IsReady}
@@ -9,14 +8,12 @@ use Rattle.engine_model.specs.Corrections.{Corrected}
 use Rattle.engine_model.specs.Invariant.{EngineInvariant, Moment}
 use Rattle.engine_model.specs.Schedule.{BarrierDone, Correct, FlushDone, NoNode, Run, Step, WriteAgain, WriteDone, WriteTaken}
 use Rattle.engine_model.specs.SmallRuns.{OrderByBarrier, SmallStep, with_barrier, with_taken, with_written}
-use Rattle.engine_model.specs.SmallSteps.{placed}
-use Rattle.engine_model.specs.VersionSwitch.{Clear, Edited, Fix, NoPrints, PageDone, Stamp, SwitchRun, SwitchStart}
+use Rattle.engine_model.specs.VersionSwitch.{Clear, Fix, NoPrints, PageDone, Stamp, SwitchRun, SwitchStart}
 use Rattle.engine_model.specs.Examples.{printed}
 use Rattle.engine_model.specs.Session.{wrote}
 use Rattle.engine_model.specs.FlushSession.{again, all_cleared, cleared_out, clearing, count_out, data_out, data_tried, first_wave, flush_moments, flushed, map_out, print_out, second_wave, stamped_out, stamping, switch_moments, waits_for_barrier}
 use Rattle.engine_model.proofs.DeviceMoves.{barrier_made_is, page_taken_is, page_taken_keeps, page_written_is, page_written_moves}
 use Rattle.engine_model.proofs.Examples.{is_data, no_other}
-use Rattle.engine_model.proofs.Quiet.{put_other, touched_here, touched_other}
 use Rattle.engine_model.proofs.Schedule.{run_keeps, step_keeps}
 use Rattle.engine_model.proofs.SwitchRuns.{placed_edited}
 use Rattle.engine_model.proofs.Session.{first_step, mounted_kept, printed_apart}

@@ -1,5 +1,5 @@
 -- A data page with count 0 is given up: the state after it is that of a dropped page.
-use Rattle.std.proofs.Common.{◌≡◌, ◌≢◌, ℕ, Bool, true, false, not, ◌&&◌, cond, arith, refl, ap, List, eqb, eq-eqb, ne_eqb}
+use Rattle.std.proofs.Common.{◌≡◌, ℕ, Bool, refl, eq-eqb, ne_eqb}
 use Rattle.std.proofs.Math.Bool.{and-false, and-true}
 use Rattle.engine_model.specs.World.{Layout, World}
 use Rattle.engine_model.specs.Entries.{Apart, IsData, cached_count}

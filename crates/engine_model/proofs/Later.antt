@@ -1,17 +1,14 @@
 -- A crash leaves a start for the next session, and what a block reads after a flush.
-use Rattle.std.proofs.Common.{◌≡◌, ◌⊎◌, inl, inr, ◌<◌, ℕ, Bool, false, cond, arith, refl, sym, ap, ◌∙◌, subst, List, [], ◌∷◌, ◌++◌, eqb, eq-eqb, ne_eqb}
+use Rattle.std.proofs.Common.{◌≡◌, ◌⊎◌, inl, inr, ◌<◌, ℕ, Bool, false, cond, arith, refl, sym, ap, ◌∙◌, subst, List, [], ◌∷◌, eqb, eq-eqb, ne_eqb}
 use Rattle.std.proofs.lemmas.Bool.{cases_eq}
-use Rattle.engine_model.specs.DeviceSteps.{Same}
+use Rattle.engine_model.specs.DeviceSteps.{Same, AtRest}
 use Rattle.engine_model.specs.World.{Agree, Layout, Has}
-use Rattle.engine_model.specs.Entries.{IsData, cached_count}
+use Rattle.engine_model.specs.Entries.{IsData, cached_count, Apart}
 use Rattle.engine_model.specs.Contents.{Last}
-use Rattle.engine_model.specs.Entries.{Apart}
-use Rattle.engine_model.specs.DeviceSteps.{AtRest}
 use Rattle.engine_model.specs.Commands.{Gains}
 use Rattle.engine_model.specs.Images.{ContentsFit, Format, CrashImage, block_in}
-use Rattle.engine_model.specs.Schedule.{last_of}
+use Rattle.engine_model.specs.Schedule.{last_of, BarrierDone, WriteDone, WriteTaken, WriteRefused, Unchanged, ReleaseApplied, Discard, Write, WriteAgain, DiscardAgain, Fold, FoldZero, DropData, Correct, FlushDone, Run, Step, gained, gained_in}
 use Rattle.engine_model.specs.Pool.{Listed, after_fixed, new_pool, taken_all, written_all}
-use Rattle.engine_model.specs.Schedule.{BarrierDone, WriteDone, WriteTaken, WriteRefused, Unchanged, ReleaseApplied, Discard, Write, WriteAgain, DiscardAgain, Fold, FoldZero, DropData, Correct, FlushDone, Run, Step, gained, gained_in}
 use Rattle.engine_model.specs.Invariant.{EngineInvariant, Moment}
 use Rattle.engine_model.proofs.Images.{image_fits, image_reads}
 use Rattle.engine_model.proofs.Lasts.{has_left, has_parts, has_right, last_has}

@@ -3,7 +3,7 @@ use Rattle.std.proofs.Common.{◌≡◌, ◌≢◌, ◌⊎◌, inl, inr, ℕ, sy
 use Rattle.std.proofs.lemmas.Bool.{cases_eq}
 use Rattle.engine_model.specs.World.{Has, Possible, World}
 use Rattle.engine_model.specs.DeviceSteps.{IsReady, Taken}
-use Rattle.engine_model.specs.Disk.{Disk, InRange, IsImageOf, IsOver, after_flush, after_write, newest_on, older_on}
+use Rattle.engine_model.specs.Disk.{Disk, InRange, IsImageOf, IsOver, after_flush, after_write}
 use Rattle.engine_model.specs.Images.{CrashImage}
 use Rattle.engine_model.proofs.Disks.{flush_newest, flush_older, image_possible, older_write, write_here, write_other}
 

@@ -1,8 +1,7 @@
 -- A fold can be made.
-use Rattle.std.proofs.Common.{◌≡◌, ◌≢◌, ◌⊎◌, inl, inr, ◌<◌, ◌≤◌, ℕ, true, false, arith, refl, sym, true≢false, eqb, eqb-true}
+use Rattle.std.proofs.Common.{◌≡◌, ◌≢◌, ◌⊎◌, inl, inr, ◌<◌, ℕ, true, false, arith, refl, sym, true≢false, eqb, eqb-true}
 use Rattle.std.proofs.lemmas.Bool.{and_parts}
 use Rattle.engine_model.specs.Entries.{IsData, IsTable}
-use Rattle.engine_model.specs.Paths.{Closes}
 use Rattle.engine_model.specs.Edits.{CacheOnly}
 use Rattle.engine_model.specs.Commands.{PageContent, Renamed}
 use Rattle.engine_model.specs.Examples.{asked}

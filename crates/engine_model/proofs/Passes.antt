@@ -3,16 +3,14 @@ use Rattle.std.proofs.Common.{◌≡◌, ◌≢◌, ◌⊎◌, inl, inr, ◌+◌
 use Rattle.std.proofs.lemmas.Bool.{cases_Bool, and_parts, and_from, or_parts, not-true, not_from_false, false_from_ne_true}
 use Rattle.engine_model.specs.World.{Agree, Layout, Release, Queued, queued}
 use Rattle.engine_model.specs.Contents.{ContentsInvariant}
-use Rattle.engine_model.specs.Entries.{IsCount, IsData, IsPrint, cached_count, cached_print}
+use Rattle.engine_model.specs.Entries.{IsCount, IsData, IsPrint, cached_count, cached_print, Apart}
 use Rattle.engine_model.specs.Paths.{LivePath, leg, via, Closes}
 use Rattle.engine_model.specs.Births.{Call, Edit, Leads, Print, Slot, cached_value, has_print, is_changed, is_met, is_unborn, place_of, same_slot, since, told}
-use Rattle.engine_model.specs.Entries.{Apart}
 use Rattle.engine_model.specs.Drops.{Dropped}
 use Rattle.engine_model.specs.Releases.{IsBlocked, IsLastPrint}
-use Rattle.engine_model.specs.Schedule.{WriteAgain, DiscardAgain, BarrierDone, Correct, Discard, DropData, FlushDone, Fold, FoldZero, Unchanged, ReleaseApplied, Step, Write, WriteDone, WriteRefused, WriteTaken}
+use Rattle.engine_model.specs.Schedule.{WriteAgain, DiscardAgain, BarrierDone, Correct, Discard, DropData, FlushDone, Fold, FoldZero, Unchanged, ReleaseApplied, Step, Write, WriteDone, WriteRefused, WriteTaken, DeviceRun, DeviceStep, NoNode, OfDevice, last_of}
 use Rattle.engine_model.specs.Invariant.{EngineInvariant, Moment, known_at}
 use Rattle.engine_model.specs.Pass.{AllBlocked, Drops, Lowers, Member, Pass}
-use Rattle.engine_model.specs.Schedule.{DeviceRun, DeviceStep, NoNode, OfDevice, last_of}
 use Rattle.engine_model.proofs.Queues.{queued_out}
 use Rattle.engine_model.proofs.Graphs.{way_begins, way_longer}
 use Rattle.engine_model.proofs.NewEdges.{none_to_data}

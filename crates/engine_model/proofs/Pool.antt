@@ -5,9 +5,8 @@ use Rattle.std.proofs.Math.Bool.{or-false}
 use Rattle.engine_model.specs.World.{Layout, World, Possible}
 use Rattle.engine_model.specs.Entries.{IsData, cached_count, newest_count}
 use Rattle.engine_model.specs.Known.{Free}
-use Rattle.engine_model.specs.DeviceSteps.{AtRest}
+use Rattle.engine_model.specs.DeviceSteps.{AtRest, Barrier, Taken}
 use Rattle.engine_model.specs.Edits.{CacheOnly}
-use Rattle.engine_model.specs.DeviceSteps.{Barrier, Taken}
 use Rattle.engine_model.specs.Pool.{Told, PoolKnows, Listed, after_take, after_tried, after_written, after_fixed, after_zeroed, is_free, new_pool, taken_all, written_all}
 use Rattle.engine_model.proofs.Views.{count_same, newest_count_same}
 

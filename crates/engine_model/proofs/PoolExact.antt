@@ -4,8 +4,7 @@ use Rattle.std.proofs.lemmas.Bool.{cases_eq, or_cases, and_parts, and_from, not-
 use Rattle.engine_model.specs.World.{Layout, World}
 use Rattle.engine_model.specs.Entries.{IsData, cached_count, newest_count}
 use Rattle.engine_model.specs.Known.{Free}
-use Rattle.engine_model.specs.DeviceSteps.{AtRest}
-use Rattle.engine_model.specs.DeviceSteps.{Barrier, Taken}
+use Rattle.engine_model.specs.DeviceSteps.{AtRest, Barrier, Taken}
 use Rattle.engine_model.specs.Pool.{Told, PoolExact, PoolKnows, PossibleStays, Listed, after_tried, after_written, after_fixed, is_free, new_pool, taken_all, written_all}
 use Rattle.engine_model.proofs.Pool.{tables_newest, taken_zero}
 use Rattle.engine_model.proofs.Views.{newest_count_same}

@@ -3,11 +3,9 @@ use Rattle.std.proofs.Common.{◌≡◌, ◌≢◌, ◌⊎◌, inl, inr, ◌+◌
 use Rattle.std.proofs.lemmas.Bool.{cases_eq, cases_Bool}
 use Rattle.engine_model.specs.World.{Layout, World, Release, Queued, queued}
 use Rattle.engine_model.specs.Counts.{CountsInvariant}
-use Rattle.engine_model.specs.Entries.{IsData, MayName, MayPrint, cached_name, cached_count, cached_print, cached_names}
-use Rattle.engine_model.specs.Edits.{Edits}
+use Rattle.engine_model.specs.Entries.{IsData, MayName, MayPrint, cached_name, cached_count, cached_print, cached_names, Apart}
+use Rattle.engine_model.specs.Edits.{Edits, CacheOnly}
 use Rattle.engine_model.specs.Known.{Known, Free, Tells}
-use Rattle.engine_model.specs.Entries.{Apart}
-use Rattle.engine_model.specs.Edits.{CacheOnly}
 use Rattle.engine_model.specs.Commands.{Released, Discarded, Renamed}
 use Rattle.engine_model.proofs.NewEdges.{kinds_kept, acyclic_kept, mandatory_kind, mandatory_open}
 use Rattle.engine_model.proofs.Counting.{count_ext, count_gain}

@@ -2,18 +2,16 @@
 use Rattle.std.proofs.Common.{◌≡◌, inl, inr, ◌+◌, ◌<◌, ℕ, Bool, arith, refl, sym, ap, ◌∙◌, subst, List, [], ◌∷◌, Some, None, eqb}
 use Rattle.std.proofs.lemmas.Bool.{cases_eq}
 use Rattle.engine_model.specs.World.{Agree, Layout, World, Has}
-use Rattle.engine_model.specs.Entries.{IsData, IsTable, cached_count, cached_name, cached_names, cached_print}
+use Rattle.engine_model.specs.Entries.{IsData, IsTable, cached_count, cached_name, cached_names, cached_print, Apart}
 use Rattle.engine_model.specs.Contents.{Last}
-use Rattle.engine_model.specs.Entries.{Apart}
 use Rattle.engine_model.specs.DeviceSteps.{AtRest}
 use Rattle.engine_model.specs.Corrections.{Corrected}
 use Rattle.engine_model.specs.Images.{ContentsFit, CountsBelow, CountsExact, CountsFit, CrashImage}
 use Rattle.engine_model.specs.Births.{BirthKnown}
 use Rattle.engine_model.specs.Pool.{PoolKnows, Listed, after_fixed, new_pool, taken_all, written_all}
-use Rattle.engine_model.specs.Schedule.{Correct}
+use Rattle.engine_model.specs.Schedule.{Correct, last_of}
 use Rattle.engine_model.specs.Invariant.{EngineInvariant, Moment}
 use Rattle.engine_model.specs.Scan.{Scan, TablesSettled}
-use Rattle.engine_model.specs.Schedule.{last_of}
 use Rattle.engine_model.proofs.AtRest.{start, start_contents}
 use Rattle.engine_model.proofs.Births.{start_births}
 use Rattle.engine_model.proofs.Counting.{count_ext}

@@ -1,14 +1,13 @@
 -- Every moment of every schedule keeps all.
 use Rattle.std.proofs.Common.{◌≡◌, ◌≢◌, inl, inr, ◌+◌, ◌<◌, sym, ap, ◌∙◌, refl, arith, subst, ℕ, List, [], ◌∷◌, Bool}
 use Rattle.std.proofs.lemmas.Bool.{cases_eq}
-use Rattle.engine_model.specs.World.{Layout}
+use Rattle.engine_model.specs.World.{Layout, Agree}
 use Rattle.engine_model.specs.Counts.{CountsInvariant}
-use Rattle.engine_model.specs.Entries.{IsData, cached_count}
+use Rattle.engine_model.specs.Entries.{IsData, cached_count, Apart}
 use Rattle.engine_model.specs.Contents.{ContentsInvariant}
 use Rattle.engine_model.specs.Known.{Tells}
 use Rattle.engine_model.specs.Births.{BirthKnown, Call, IsSlot, Name, Print, Slot, has_print, told}
 use Rattle.engine_model.specs.Pool.{PoolKnows, Told, after_take, after_zeroed}
-use Rattle.engine_model.specs.Entries.{Apart}
 use Rattle.engine_model.specs.Edits.{CacheOnly}
 use Rattle.engine_model.specs.Invariant.{Moment, EngineInvariant, ToldBirths, ToldTake, ToldZero, known_at}
 use Rattle.engine_model.specs.Schedule.{Step, BarrierDone, WriteDone, WriteTaken, WriteRefused, Unchanged, ReleaseApplied, Discard, Write, WriteAgain, DiscardAgain, Fold, FoldZero, DropData, Correct, FlushDone, Run, Each}
@@ -22,7 +21,6 @@ use Rattle.engine_model.proofs.Dropped as dropped
 use Rattle.engine_model.proofs.Same.{same_is}
 use mathlib.Core.Path.{fun_ext}
 use Rattle.engine_model.specs.DeviceSteps.{Same}
-use Rattle.engine_model.specs.World.{Agree}
 use Rattle.engine_model.proofs.BarrierContents.{barrier_contents}
 use Rattle.engine_model.proofs.WriteContents.{done_contents, taken_contents}
 use Rattle.engine_model.proofs.ReleasedContents.{again_contents, again_zero_contents, fold_zero_contents, applied_contents, correct_contents, discard_contents}

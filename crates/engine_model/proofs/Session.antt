@@ -1,10 +1,9 @@
 -- The session in small is a run of steps.
-use Rattle.std.proofs.Common.{◌≡◌, ◌≢◌, ◌⊎◌, inl, inr, ◌<◌, ℕ, Bool, true, false, ◌||◌, ◌&&◌, arith, refl, sym, ap, subst, ◌≤◌, List, [], ◌∷◌, true≢false, eqb, ne_eqb}
+use Rattle.std.proofs.Common.{◌≡◌, ◌≢◌, ◌⊎◌, inl, inr, ◌<◌, ℕ, true, false, ◌||◌, ◌&&◌, arith, refl, sym, ap, subst, ◌≤◌, List, [], ◌∷◌, true≢false, eqb, ne_eqb}
 use Rattle.std.proofs.Math.Bool.{or-false}
 use Rattle.engine_model.specs.World.{count_below}
-use Rattle.engine_model.specs.Entries.{IsTable, IsData}
+use Rattle.engine_model.specs.Entries.{IsTable, IsData, Apart}
 use Rattle.engine_model.specs.Births.{Slot, Name, Print, IsSlot, Leads, cached_value}
-use Rattle.engine_model.specs.Entries.{Apart}
 use Rattle.engine_model.specs.DeviceSteps.{AtRest}
 use Rattle.engine_model.specs.Examples.{printed, empty, written}
 use Rattle.engine_model.specs.Session.{discarded, discarded_world, discard_edits, dropped, count_gone, count_gone_world, dropped_world, mounted, release_edits, unborn_release, write_edits, wrote}

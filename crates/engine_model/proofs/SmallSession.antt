@@ -1,8 +1,6 @@
 -- The session by small steps is a run of small steps.
-use Rattle.std.proofs.Common.{◌≡◌, ◌≢◌, inl, inr, ◌⊎◌, ◌∙◌, ◌++◌, ℕ, false, arith, refl, sym, List, [], ◌∷◌, true≢false, ne_eqb}
-use Rattle.engine_model.specs.World.{World}
+use Rattle.std.proofs.Common.{◌≡◌, ◌≢◌, inl, inr, ◌⊎◌, ◌++◌, ℕ, arith, refl, sym, List, [], ◌∷◌, true≢false, ne_eqb}
 use Rattle.engine_model.specs.Entries.{EdgeKind}
-use Rattle.engine_model.specs.Paths.{Closes}
 use Rattle.engine_model.specs.Commands.{Gains}
 use Rattle.engine_model.specs.Invariant.{known_at}
 use Rattle.engine_model.specs.SmallSteps.{CanClear, CanLower, CanName, CanPrint, CanRaise, CanRecount, SetsCount, SetsName}

@@ -26,7 +26,6 @@ module _ (lay : Layout) (top : ℕ) (sound : Bool) (apart : Apart lay) where
   small_step_keeps m n k (SetName l o p c array can gain e) = rw e (named_keeps lay top sound apart m k l o p c can array gain)
   small_step_keeps m n k (ClearPrint p c print can e) = rw e (cleared_keeps lay top sound apart m k p c print can)
   small_step_keeps m n k (Lower r before after c count pool can e told) = rw e (lowered_keeps lay top sound apart m k r before after c count can pool (subst (λ x. ToldZero lay r.page m x) e told))
-
   small_step_keeps m n k (Recount p c count pool can e told) = rw e (recounted_keeps lay top sound apart m k p c count can pool (subst (λ x. ToldZero lay p m x) e told))
   small_step_keeps m n k (GiveUp p is none e) = rw e (given_up_keeps lay top sound apart m k p is none)
 

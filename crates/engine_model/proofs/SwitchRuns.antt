@@ -4,14 +4,12 @@ use Rattle.std.proofs.lemmas.Bool.{cases_Bool, false_from_ne_true}
 use Rattle.engine_model.specs.SmallSteps.{placed}
 use Rattle.engine_model.proofs.Quiet.{put_other, touched_here, touched_other}
 use Rattle.engine_model.specs.World.{Agree, Layout, Possible, World}
-use Rattle.engine_model.specs.Entries.{IsData, IsTable}
+use Rattle.engine_model.specs.Entries.{IsData, IsTable, Apart}
 use Rattle.engine_model.specs.Births.{Call, Fixed, IsSlot, Name, NothingRecorded, Print, Slot, is_changed, place_of, since, wrote_last}
 use Rattle.engine_model.specs.Contents.{ContentsInvariant}
-use Rattle.engine_model.specs.Entries.{Apart}
-use Rattle.engine_model.specs.Schedule.{last_of}
+use Rattle.engine_model.specs.Schedule.{last_of, Each}
 use Rattle.engine_model.specs.Images.{CrashImage}
 use Rattle.engine_model.specs.Pool.{PoolKnows}
-use Rattle.engine_model.specs.Schedule.{Each}
 use Rattle.engine_model.specs.Invariant.{EngineInvariant, Moment}
 use Rattle.engine_model.specs.VersionSwitch.{Clear, Edited, Fix, Idle, PageDone, PageRefused, PageTaken, SwitchImage, SwitchRun, SwitchStart, SwitchStep, Switching, Stamp, with_finger}
 use Rattle.engine_model.proofs.Births.{settled_births}

@@ -3,9 +3,8 @@ use Rattle.std.proofs.Common.{◌≡◌, ◌≢◌, ◌⊎◌, inl, inr, ◌<◌
 use Rattle.std.proofs.lemmas.Bool.{cases_eq, and_parts, or_cases, false_from_ne_true}
 use Rattle.engine_model.specs.World.{Layout, World, Possible, Has}
 use Rattle.engine_model.specs.Counts.{Covered, CountsInvariant, Near}
-use Rattle.engine_model.specs.Entries.{IsData, IsPrint, IsTable, MayName, MayPrint, cached_count, cached_name, cached_names, cached_print}
+use Rattle.engine_model.specs.Entries.{IsData, IsPrint, IsTable, MayName, MayPrint, cached_count, cached_name, cached_names, cached_print, Apart}
 use Rattle.engine_model.specs.Contents.{ContentsInvariant, Last}
-use Rattle.engine_model.specs.Entries.{Apart}
 use Rattle.engine_model.specs.Images.{ContentsFit, CountsFit, CrashImage}
 use Rattle.engine_model.specs.DeviceSteps.{Barrier, KeepsMarks, MovesMarks, Taken}
 use Rattle.engine_model.specs.VersionSwitch.{AllCleared, Clears, Edited, NoPrints, Switching, Stamps, Untouched, with_finger}

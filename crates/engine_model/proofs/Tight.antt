@@ -2,17 +2,15 @@
 use Rattle.std.proofs.Common.{◌≡◌, ◌≢◌, inl, inr, ◌+◌, ◌<◌, ℕ, true, arith, refl, sym, ap, ◌∙◌, subst, List, [], Option, Some, None, eqb, eq-zero-or-pos}
 use Rattle.std.proofs.lemmas.Bool.{cases_eq}
 use Rattle.engine_model.specs.World.{Layout, World, count_below, queued}
-use Rattle.engine_model.specs.Entries.{IsData, IsTable, cached_name, cached_count, cached_names, cached_print}
-use Rattle.engine_model.specs.Entries.{Apart}
+use Rattle.engine_model.specs.Entries.{IsData, IsTable, cached_name, cached_count, cached_names, cached_print, Apart}
 use Rattle.engine_model.specs.DeviceSteps.{AtRest}
 use Rattle.engine_model.specs.Corrections.{Corrected}
 use Rattle.engine_model.specs.Commands.{DataKept, Discarded, PageContent, Renamed}
 use Rattle.engine_model.specs.Images.{ImageTight, CrashImage}
-use Rattle.engine_model.specs.Schedule.{NoNode}
+use Rattle.engine_model.specs.Schedule.{NoNode, WriteAgain, DiscardAgain, BarrierDone, Correct, Discard, DropData, FlushDone, Fold, FoldZero, Unchanged, ReleaseApplied, Step, Write, WriteDone, WriteRefused, WriteTaken}
 use Rattle.engine_model.specs.Scan.{SameWaste}
 use Rattle.engine_model.proofs.Counting.{count_ext}
 use Rattle.engine_model.specs.Tight.{ChoosesWell, HasRoom, IsTight, NoneUsable}
-use Rattle.engine_model.specs.Schedule.{WriteAgain, DiscardAgain, BarrierDone, Correct, Discard, DropData, FlushDone, Fold, FoldZero, Unchanged, ReleaseApplied, Step, Write, WriteDone, WriteRefused, WriteTaken}
 use Rattle.engine_model.specs.Invariant.{EngineInvariant, Moment, known_at}
 use Rattle.engine_model.proofs.Dropped as dropped
 use Rattle.engine_model.proofs.Schedule.{tells}

@@ -1,6 +1,5 @@
 -- A write that the device took keeps what the engine keeps, whether it ended Done or Taken.
-use Rattle.std.proofs.Common.{◌≡◌, ◌≢◌, ◌⊎◌, inl, inr, ◌<◌, ℕ, true, false, eqb, sym, ap, ◌∙◌, List, Some, true≢false, eq-eqb, ne_eqb, eqb-true}
-use Rattle.std.proofs.Common.{le_trans, refl}
+use Rattle.std.proofs.Common.{◌≡◌, ◌≢◌, ◌⊎◌, inl, inr, ◌<◌, ℕ, true, false, eqb, sym, ap, ◌∙◌, List, Some, true≢false, eq-eqb, ne_eqb, eqb-true, le_trans, refl}
 use Rattle.engine_model.proofs.Stages.{mapped_from, queued_written, written_zero, written_stays, written_moves, written_one, written_from}
 use Rattle.std.proofs.lemmas.Bool.{false_from_ne_true, not_from_false, not-false, not-true, and_cases, cases_eq, and_parts, or_cases, or_parts, and_from, or_left, or_right}
 use Rattle.engine_model.specs.World.{Layout, World, Queued, queued, AtMost}

@@ -1,4 +1,5 @@
-//! A barrier makes the newest content of each page the only possible one, takes the marks of what was written and the Barrier edges, and moves stage 1 to stage 2.
+//! A barrier makes the newest content of each page the only possible one, takes the marks of what was written and
+//! the Barrier edges, and moves stage 1 to stage 2.
 
 ghost use Rattle.std.specs.Prelude.{◌≡◌, ◌∷◌, ℕ, List, Bool};
 ghost use Rattle.engine_model.specs.Births.{BirthKnown, Call, Fixed, Slot};

@@ -9,7 +9,8 @@ ghost use Rattle.engine_model.specs.Known.{Tells};
 ghost use Rattle.engine_model.specs.Schedule.{NoNode};
 ghost use Rattle.engine_model.specs.World.{Layout, Possible, World};
 
-/// A value that is unborn by the calls is in no possible content. In words: the slot was changed since its page was settled, and had the value neither then nor at a try since. Where no page is a node nothing is recorded.
+/// A value that is unborn by the calls is in no possible content. In words: the slot was changed since its page was
+/// settled, and had the value neither then nor at a try since. Where no page is a node nothing is recorded.
 pub fn births()
     ensures unborn { (lay : Layout) (w : World) (calls : List Call) (slot : Slot) (value : ℕ)
         → BirthKnown lay w calls slot → is_unborn slot (place_of lay slot) value calls ≡ true → (c : List ℕ)

@@ -28,7 +28,8 @@ pub fn disk_lists()
         → Has (get_or image page []) (older_on d page) }
 {}
 
-/// A write and a barrier on the lists are those of the plain state over them, and an image of the lists is one of the state.
+/// A write and a barrier on the lists are those of the plain state over them, and an image of the lists is one of
+/// the state.
 pub fn disk_steps()
     ensures taken { (d : Disk) (w v : World) (page : ℕ) → IsOver d w → IsOver (after_write d page (w.cached page)) v
         → IsReady w page → ((other : ℕ) → v.cached other ≡ w.cached other) → Taken w v page }
@@ -39,7 +40,8 @@ pub fn disk_steps()
         → CrashImage w (λ page. get_or image page []) }
 {}
 
-/// The edges of a list after each call of a graph, and that no edge less and no edge that closes nothing makes a cycle.
+/// The edges of a list after each call of a graph, and that no edge less and no edge that closes nothing makes a
+/// cycle.
 pub fn edge_lists()
     ensures live_wrote { (es : List Edge) (page a b : ℕ)
         → live_in (after_wrote page es) a b ≡ live_in es a b && not (eqb a page) }

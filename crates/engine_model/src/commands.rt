@@ -5,12 +5,9 @@ ghost use Rattle.engine_model.specs.Commands.{DataKept, Discarded, Gains, PageCo
 ghost use Rattle.engine_model.specs.Contents.{ContentsInvariant, Last};
 ghost use Rattle.engine_model.specs.Counts.{CountsInvariant};
 ghost use Rattle.engine_model.specs.Entries.{Apart, IsData, cached_name};
-ghost use Rattle.engine_model.specs.Examples.{written};
 ghost use Rattle.engine_model.specs.Invariant.{EngineInvariant, Moment};
 ghost use Rattle.engine_model.specs.Known.{Known, Tells};
-ghost use Rattle.engine_model.specs.Pair.{folded};
 ghost use Rattle.engine_model.specs.Schedule.{Step};
-ghost use Rattle.engine_model.specs.Session.{discarded};
 ghost use Rattle.engine_model.specs.World.{Layout, World};
 
 /// A block takes the name of a fresh page or of one that holds the content already: a write.
@@ -44,7 +41,8 @@ pub fn copied()
         → ContentsInvariant lay sound before w → ContentsInvariant lay sound after v }
 {}
 
-/// A block takes the name of another page of equal content, or none where its page holds zeros, and no list changes.
+/// A block takes the name of another page of equal content, or none where its page holds zeros, and no list
+/// changes.
 pub fn folded()
     ensures contents { (lay : Layout) (known : Known) (top : ℕ) (sound : Bool) (array : ℕ → List (List ℕ)) (w v : World) (l o p : ℕ)
         → IsData lay o → Tells lay w known → Renamed lay known top w v l o p
@@ -55,7 +53,8 @@ pub fn folded()
         → CountsInvariant lay top w → ContentsInvariant lay sound array w → ContentsInvariant lay sound array v }
 {}
 
-/// A write of what the block holds, and a discard of a block with no name, change no entry; each appends to the list.
+/// A write of what the block holds, and a discard of a block with no name, change no entry; each appends to the
+/// list.
 pub fn written_again()
     ensures write { (lay : Layout) (top : ℕ) (sound : Bool) (before after : ℕ → List (List ℕ)) (w : World) (l p : ℕ) (content : List ℕ)
         → IsData lay p → cached_name lay w l ≡ p → w.cached (lay.data_page p) ≡ content → Gains before after l content

@@ -7,7 +7,8 @@ ghost use Rattle.engine_model.specs.Images.{ContentsFit, CountsFit, CrashImage};
 ghost use Rattle.engine_model.specs.Invariant.{EngineInvariant, Moment};
 ghost use Rattle.engine_model.specs.World.{Layout, World};
 
-/// In every image counts cover names, prints stand on counts, each block reads a content of its list, and prints are true where the session began sound.
+/// In every image counts cover names, prints stand on counts, each block reads a content of its list, and prints
+/// are true where the session began sound.
 pub fn images()
     ensures counts { (lay : Layout) (top : ℕ) (w : World) (image : ℕ → List ℕ) → CountsInvariant lay top w
         → CrashImage w image → CountsFit lay image }

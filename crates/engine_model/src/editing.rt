@@ -37,7 +37,8 @@ pub fn edits()
         → ToldPool lay m n → EngineInvariant lay top sound n }
 {}
 
-/// Pages are touched, counts are raised or edges are added, in any number at once, and no entry of another kind changes.
+/// Pages are touched, counts are raised or edges are added, in any number at once, and no entry of another kind
+/// changes.
 pub fn growth()
     ensures counts { (lay : Layout) (top : ℕ) (w v : World) → CountsInvariant lay top w → Grown lay top w v
         → CountsInvariant lay top v }

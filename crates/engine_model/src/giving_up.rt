@@ -5,7 +5,6 @@ ghost use Rattle.engine_model.specs.Contents.{ContentsInvariant};
 ghost use Rattle.engine_model.specs.Counts.{CountsInvariant};
 ghost use Rattle.engine_model.specs.Drops.{Dropped};
 ghost use Rattle.engine_model.specs.Entries.{Apart, IsData, cached_count};
-ghost use Rattle.engine_model.specs.Session.{dropped};
 ghost use Rattle.engine_model.specs.SmallSteps.{given_up};
 ghost use Rattle.engine_model.specs.World.{Layout, World};
 

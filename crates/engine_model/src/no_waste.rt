@@ -1,4 +1,5 @@
-//! Where nothing is wasted each step keeps it so, as long as a fresh page is chosen only where no candidate is usable.
+//! Where nothing is wasted each step keeps it so, as long as a fresh page is chosen only where no candidate is
+//! usable.
 
 ghost use Rattle.std.specs.Prelude.{◌≡◌, [], ℕ, List, true};
 ghost use Rattle.engine_model.specs.DeviceSteps.{AtRest};

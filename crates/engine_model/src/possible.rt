@@ -18,7 +18,8 @@ ghost use Rattle.engine_model.specs.SmallSession.{content_placed, small_moments}
 ghost use Rattle.engine_model.specs.SmallSteps.{touched};
 ghost use Rattle.engine_model.specs.VersionSwitch.{SwitchRun, SwitchStart};
 
-/// The edits of a write to a fresh page, of an applied release that takes a print away, and of a fold; so edits in general, and a touched page.
+/// The edits of a write to a fresh page, of an applied release that takes a print away, and of a fold; so edits in
+/// general, and a touched page.
 pub fn edits_are_possible()
     ensures written { Tells printed empty (asked true) × Renamed printed (asked true) 5 empty written 0 0 1
         × PageContent printed (asked true) empty written 0 1 (7 ∷ []) × Gains empty_array written_array 0 (7 ∷ []) }
@@ -31,7 +32,8 @@ pub fn edits_are_possible()
     ensures grown { Grown printed 5 empty (touched 1 empty) × ToldPool printed mounted content_placed }
 {}
 
-/// A session in small: a block is written and discarded, its release is applied and its content dropped, no page was written, and one is free. The last two steps are a pass.
+/// A session in small: a block is written and discarded, its release is applied and its content dropped, no page
+/// was written, and one is free. The last two steps are a pass.
 pub fn a_session_is_possible()
     ensures start { Apart printed × EngineInvariant printed 5 true mounted }
     ensures run { Run printed 5 mounted (wrote ∷ (discarded ∷ (count_gone ∷ (dropped ∷ [])))) }
@@ -45,7 +47,8 @@ pub fn small_steps_are_possible()
     ensures barrier_edge { SmallStep printed 5 count_out waits_for_barrier }
 {}
 
-/// What was written goes out, with one write that fails and is taken; then each block has its last content, a correction finds nothing, and the block is written again with what it holds.
+/// What was written goes out, with one write that fails and is taken; then each block has its last content, a
+/// correction finds nothing, and the block is written again with what it holds.
 pub fn a_flush_is_possible()
     ensures run { Run printed 5 wrote flush_moments }
 {}

@@ -31,7 +31,8 @@ pub fn second_flush()
         → NoNode o × (o.world.queue ≡ []) }
 {}
 
-/// Ways that cannot be, so that an edge closes no cycle: none begins at a page that is not dirty, and none leads to a data page.
+/// Ways that cannot be, so that an edge closes no cycle: none begins at a page that is not dirty, and none leads to
+/// a data page.
 pub fn no_way()
     ensures to_settled { (lay : Layout) (top : ℕ) (w : World) (a b : ℕ) → CountsInvariant lay top w
         → w.dirty b ≡ false → a ≢ b → Closes w.live a b → ⊥ }

@@ -1,4 +1,5 @@
-//! An applied release: the count is lowered, the print goes where the count becomes 0, and the needed edges are added.
+//! An applied release: the count is lowered, the print goes where the count becomes 0, and the needed edges are
+//! added.
 
 ghost use Rattle.std.specs.Prelude.{ℕ, List, Bool};
 ghost use Rattle.engine_model.specs.Commands.{DataKept};

@@ -1,4 +1,5 @@
-//! A session begins on a device with nothing pending: whatever fit image it holds, all parts of the invariant are met.
+//! A session begins on a device with nothing pending: whatever fit image it holds, all parts of the invariant are
+//! met.
 
 ghost use Rattle.std.specs.Prelude.{◌≡◌, ◌↔◌, ◌<◌, [], ℕ, List, Bool};
 ghost use Rattle.engine_model.specs.Births.{BirthKnown, Slot};
@@ -11,7 +12,8 @@ ghost use Rattle.engine_model.specs.Invariant.{EngineInvariant, Moment};
 ghost use Rattle.engine_model.specs.Pool.{Listed, PoolExact, PoolKnows, after_fixed, new_pool, taken_all, written_all};
 ghost use Rattle.engine_model.specs.World.{Agree, Has, Layout, World};
 
-/// A state at rest over a fit image meets the invariant. With the calls that a mount makes, the pool gives exactly the pages that are free.
+/// A state at rest over a fit image meets the invariant. With the calls that a mount makes, the pool gives exactly
+/// the pages that are free.
 pub fn start()
     ensures counts { (lay : Layout) (top : ℕ) (w : World) → AtRest w → CountsFit lay w.newest
         → CountsBelow lay top w.newest → CountsInvariant lay top w }

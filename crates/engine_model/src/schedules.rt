@@ -13,7 +13,8 @@ ghost use Rattle.engine_model.specs.Schedule.{Each, NoNode, Run, gained_in, last
 ghost use Rattle.engine_model.specs.SmallRuns.{SmallRun};
 ghost use Rattle.engine_model.specs.World.{Agree, Has, Layout, Possible, World};
 
-/// At every moment the invariant holds; so every image at every moment is fit and reads allowed contents, no cycle is closed, and edges are of the allowed kinds.
+/// At every moment the invariant holds; so every image at every moment is fit and reads allowed contents, no cycle
+/// is closed, and edges are of the allowed kinds.
 pub fn every_schedule()
     ensures kept { (lay : Layout) (top : ℕ) (sound : Bool) → Apart lay → (m : Moment) (ns : List Moment)
         → EngineInvariant lay top sound m → Run lay top m ns → Each (EngineInvariant lay top sound) ns }
@@ -27,7 +28,8 @@ pub fn every_schedule()
         → Each (λ n. IsAcyclic n.world.live × EdgeKinds lay n.world) ns }
 {}
 
-/// Where no page is a node each block of every image is the last of its list. The list may then be cut to that one, and later images read it or one that was gained since.
+/// Where no page is a node each block of every image is the last of its list. The list may then be cut to that one,
+/// and later images read it or one that was gained since.
 pub fn after_a_flush()
     ensures last { (lay : Layout) (top : ℕ) (sound : Bool) (m : Moment) → EngineInvariant lay top sound m → NoNode m
         → Format lay top → (image : ℕ → List ℕ) → CrashImage m.world image → (l : ℕ) → l < lay.blocks → (c : List ℕ)
@@ -46,7 +48,8 @@ pub fn after_a_flush()
         → (block_in lay image l ≡ c) ⊎ Has (block_in lay image l) (gained_in lay top n ns r l) }
 {}
 
-/// What a crash leaves starts the next session, and at any moment each block of an image is one of its list, or one that was gained since.
+/// What a crash leaves starts the next session, and at any moment each block of an image is one of its list, or one
+/// that was gained since.
 pub fn sessions_chain()
     ensures next { (lay : Layout) (top : ℕ) (sound : Bool) → Format lay top → (m n : Moment) (counted tables : List ℕ)
         → EngineInvariant lay top sound m → AtRest n.world → CrashImage m.world n.world.newest

@@ -1,4 +1,5 @@
-//! The small steps into which a command falls. Each keeps the invariant alone, so a device call, a fault or a crash may come between any two of them.
+//! The small steps into which a command falls. Each keeps the invariant alone, so a device call, a fault or a crash
+//! may come between any two of them.
 
 ghost use Rattle.std.specs.Prelude.{◌≡◌, ◌+◌, ◌++◌, ℕ, List, Bool, true};
 ghost use Rattle.engine_model.specs.Counts.{CountsInvariant};
@@ -52,7 +53,8 @@ pub fn set_print()
         → EngineInvariant lay top sound (with_print lay p c 0 1 m) }
 {}
 
-/// A block takes another name, or none, and the release of the old one is pushed. Its list gains what it holds now, or has it as its last.
+/// A block takes another name, or none, and the release of the old one is pushed. Its list gains what it holds now,
+/// or has it as its last.
 pub fn set_name()
     ensures kept { (lay : Layout) (top : ℕ) (sound : Bool) → Apart lay → (m : Moment)
         → EngineInvariant lay top sound m → (l o p : ℕ) (c : List ℕ) → CanName lay m.world l o p c
@@ -91,7 +93,8 @@ pub fn give_up()
         → EngineInvariant lay top sound (in_state (given_up (lay.data_page p) m.world) m) }
 {}
 
-/// The state is the same, read another way: as after a clean page was fetched or forgotten, or after a barrier that was refused.
+/// The state is the same, read another way: as after a clean page was fetched or forgotten, or after a barrier that
+/// was refused.
 pub fn reload()
     ensures counts { (lay : Layout) (top : ℕ) (w v : World) → CountsInvariant lay top w → Same w v
         → CountsInvariant lay top v }

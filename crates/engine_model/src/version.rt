@@ -1,4 +1,5 @@
-//! The change of a version in place. While it runs an invariant of its own stands in the place of the engine invariant.
+//! The change of a version in place. While it runs an invariant of its own stands in the place of the engine
+//! invariant.
 
 ghost use Rattle.std.specs.Prelude.{◌≡◌, ◌≢◌, ℕ, List, Bool, true};
 ghost use Rattle.engine_model.specs.Entries.{Apart};
@@ -9,7 +10,8 @@ ghost use Rattle.engine_model.specs.SmallSteps.{placed};
 ghost use Rattle.engine_model.specs.VersionSwitch.{Edited, SwitchImage, SwitchRun, SwitchStart, with_finger};
 ghost use Rattle.engine_model.specs.World.{Layout, Possible, World};
 
-/// Each image within is fit in the version of its first page, and the end keeps the engine invariant in the other version.
+/// Each image within is fit in the version of its first page, and the end keeps the engine invariant in the other
+/// version.
 pub fn version_switch()
     ensures images { (lay : Layout) (top : ℕ) (sound : Bool) (next : List ℕ) (was : Moment) → Apart lay
         → SwitchStart lay top sound was → (finger : List ℕ → List ℕ) → next ≢ was.world.newest 0 → (ns : List Moment)

@@ -1,4 +1,5 @@
-//! A write of a page to which no edge leads. It may end done, refused, or failed and yet taken; what the device may have taken counts as possible from then on.
+//! A write of a page to which no edge leads. It may end done, refused, or failed and yet taken; what the device may
+//! have taken counts as possible from then on.
 
 ghost use Rattle.std.specs.Prelude.{◌≡◌, ◌∷◌, ℕ, List, Bool};
 ghost use Rattle.engine_model.specs.Births.{BirthKnown, Call, Slot, Tried, Written};
@@ -11,7 +12,8 @@ ghost use Rattle.engine_model.specs.Pool.{PoolExact, PoolKnows, PossibleStays, T
 ghost use Rattle.engine_model.specs.SmallRuns.{with_taken, with_written};
 ghost use Rattle.engine_model.specs.World.{Agree, Layout, World};
 
-/// A write that ended done: the page is hung and not dirty, the Live edges from it become Barrier edges, and the releases of its blocks move from stage 0 to stage 1.
+/// A write that ended done: the page is hung and not dirty, the Live edges from it become Barrier edges, and the
+/// releases of its blocks move from stage 0 to stage 1.
 pub fn write_done()
     ensures counts { (lay : Layout) (top : ℕ) (w v : World) (page : ℕ) → CountsInvariant lay top w → Taken w v page
         → MovesMarks lay w v page → CountsInvariant lay top v }

@@ -2,7 +2,6 @@ use Rattle.engine_model.proofs.barriers.barrier.Goals as goal
 use Rattle.engine_model.proofs.Barrier.{barrier_keeps}
 use Rattle.engine_model.proofs.BarrierContents.{barrier_contents}
 use Rattle.engine_model.proofs.Births.{fixed_births}
-use Rattle.engine_model.proofs.Bytes.{apart}
 use Rattle.engine_model.proofs.DeviceMoves.{barrier_made_is, barrier_made_keeps}
 use Rattle.engine_model.proofs.Pool.{fixed_knows}
 use Rattle.engine_model.proofs.PoolExact.{fixed_exact}

@@ -1,5 +1,4 @@
 use Rattle.engine_model.proofs.commands.any_step.Goals as goal
-use Rattle.engine_model.proofs.Bytes.{apart}
 use Rattle.engine_model.proofs.Schedule.{step_keeps}
 
 pub returns : goal.returns

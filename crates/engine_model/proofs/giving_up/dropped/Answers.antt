@@ -1,5 +1,4 @@
 use Rattle.engine_model.proofs.giving_up.dropped.Goals as goal
-use Rattle.engine_model.proofs.Bytes.{apart}
 use Rattle.engine_model.proofs.Dropped.{drop_contents, drop_keeps}
 use Rattle.engine_model.proofs.GivenUp.{given_up_is}
 

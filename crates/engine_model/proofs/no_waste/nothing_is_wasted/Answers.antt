@@ -1,5 +1,4 @@
 use Rattle.engine_model.proofs.no_waste.nothing_is_wasted.Goals as goal
-use Rattle.engine_model.proofs.Bytes.{apart}
 use Rattle.engine_model.proofs.Tight.{end_tight, start_tight, step_tight}
 
 pub returns : goal.returns

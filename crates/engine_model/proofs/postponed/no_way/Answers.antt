@@ -1,5 +1,4 @@
 use Rattle.engine_model.proofs.postponed.no_way.Goals as goal
-use Rattle.engine_model.proofs.Bytes.{apart}
 use Rattle.engine_model.proofs.Corollaries.{settled_open}
 use Rattle.engine_model.proofs.NewEdges.{data_open}
 

@@ -1,5 +1,4 @@
 use Rattle.engine_model.proofs.postponed.postponed_where_blocked.Goals as goal
-use Rattle.engine_model.proofs.Bytes.{apart}
 use Rattle.engine_model.proofs.Corollaries.{drained_stages}
 use Rattle.engine_model.proofs.Passes.{drained_pass, drained_twice, pass_leaves}
 use Rattle.std.proofs.Common.{refl}

@@ -1,5 +1,4 @@
 use Rattle.engine_model.proofs.postponed.second_flush.Goals as goal
-use Rattle.engine_model.proofs.Bytes.{apart}
 use Rattle.engine_model.proofs.Flushes.{second_flush_leaves}
 
 pub returns : goal.returns

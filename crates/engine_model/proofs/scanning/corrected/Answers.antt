@@ -1,5 +1,4 @@
 use Rattle.engine_model.proofs.scanning.corrected.Goals as goal
-use Rattle.engine_model.proofs.Bytes.{apart}
 use Rattle.engine_model.proofs.Corrected.{correct_keeps, sure}
 use Rattle.engine_model.proofs.ReleasedContents.{correct_contents}
 

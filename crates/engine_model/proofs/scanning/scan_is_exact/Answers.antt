@@ -1,5 +1,4 @@
 use Rattle.engine_model.proofs.scanning.scan_is_exact.Goals as goal
-use Rattle.engine_model.proofs.Bytes.{apart}
 use Rattle.engine_model.proofs.Scans.{scan_array, scan_exact, scan_keeps}
 use Rattle.engine_model.proofs.Waste.{step_waste}
 

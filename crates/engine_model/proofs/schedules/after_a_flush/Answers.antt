@@ -1,6 +1,5 @@
 use Rattle.engine_model.proofs.schedules.after_a_flush.Goals as goal
 use Rattle.engine_model.proofs.AtRest.{flush_contents}
-use Rattle.engine_model.proofs.Bytes.{apart}
 use Rattle.engine_model.proofs.Flushes.{reads_last}
 use Rattle.engine_model.proofs.Later.{after_flush_reads}
 

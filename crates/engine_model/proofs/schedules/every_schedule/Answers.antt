@@ -1,5 +1,4 @@
 use Rattle.engine_model.proofs.schedules.every_schedule.Goals as goal
-use Rattle.engine_model.proofs.Bytes.{apart}
 use Rattle.engine_model.proofs.Schedule.{run_keeps}
 use Rattle.engine_model.proofs.SmallSteps.{small_run_fits, small_run_graph, small_run_keeps}
 

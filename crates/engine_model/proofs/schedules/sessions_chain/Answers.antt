@@ -1,6 +1,4 @@
 use Rattle.engine_model.proofs.schedules.sessions_chain.Goals as goal
-use Rattle.engine_model.proofs.Bytes.{apart}
-use Rattle.engine_model.proofs.Examples.{tables}
 use Rattle.engine_model.proofs.Later.{next_session, reads_later}
 
 pub returns : goal.returns

@@ -1,5 +1,4 @@
 use Rattle.engine_model.proofs.small_steps.any_small_step.Goals as goal
-use Rattle.engine_model.proofs.Bytes.{apart}
 use Rattle.engine_model.proofs.SmallSteps.{small_step_keeps}
 
 pub returns : goal.returns

@@ -1,5 +1,4 @@
 use Rattle.engine_model.proofs.small_steps.give_up.Goals as goal
-use Rattle.engine_model.proofs.Bytes.{apart}
 use Rattle.engine_model.proofs.GivenUp.{given_up_keeps}
 
 pub returns : goal.returns

@@ -1,5 +1,4 @@
 use Rattle.engine_model.proofs.small_steps.order.Goals as goal
-use Rattle.engine_model.proofs.Bytes.{apart}
 use Rattle.engine_model.proofs.Quiet.{barred_keeps, ordered_keeps}
 
 pub returns : goal.returns

@@ -1,5 +1,4 @@
 use Rattle.engine_model.proofs.small_steps.raise.Goals as goal
-use Rattle.engine_model.proofs.Bytes.{apart}
 use Rattle.engine_model.proofs.Quiet.{raised_keeps}
 
 pub returns : goal.returns

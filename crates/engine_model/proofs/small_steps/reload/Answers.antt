@@ -1,5 +1,4 @@
 use Rattle.engine_model.proofs.small_steps.reload.Goals as goal
-use Rattle.engine_model.proofs.Bytes.{apart}
 use Rattle.engine_model.proofs.Same.{same_is}
 use Rattle.engine_model.proofs.Schedule.{step_keeps}
 use Rattle.engine_model.specs.Counts.{CountsInvariant}

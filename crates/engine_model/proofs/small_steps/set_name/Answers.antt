@@ -1,5 +1,4 @@
 use Rattle.engine_model.proofs.small_steps.set_name.Goals as goal
-use Rattle.engine_model.proofs.Bytes.{apart}
 use Rattle.engine_model.proofs.SetNames.{named_keeps}
 
 pub returns : goal.returns

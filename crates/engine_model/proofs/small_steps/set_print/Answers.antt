@@ -1,5 +1,4 @@
 use Rattle.engine_model.proofs.small_steps.set_print.Goals as goal
-use Rattle.engine_model.proofs.Bytes.{apart}
 use Rattle.engine_model.proofs.SetPrints.{printed_keeps}
 
 pub returns : goal.returns

@@ -1,5 +1,4 @@
 use Rattle.engine_model.proofs.small_steps.touch.Goals as goal
-use Rattle.engine_model.proofs.Bytes.{apart}
 use Rattle.engine_model.proofs.Quiet.{touched_keeps}
 
 pub returns : goal.returns

@@ -1,5 +1,4 @@
 use Rattle.engine_model.proofs.version.version_switch.Goals as goal
-use Rattle.engine_model.proofs.Bytes.{apart}
 use Rattle.engine_model.proofs.SwitchRuns.{placed_edited, switch_ends, switch_images}
 
 pub returns : goal.returns

@@ -1,6 +1,5 @@
 use Rattle.engine_model.proofs.writes.write_done.Goals as goal
 use Rattle.engine_model.proofs.Births.{done_births}
-use Rattle.engine_model.proofs.Bytes.{apart}
 use Rattle.engine_model.proofs.DeviceMoves.{page_written_is, page_written_kept, page_written_moves}
 use Rattle.engine_model.proofs.Pool.{written_knows}
 use Rattle.engine_model.proofs.PoolExact.{written_exact}

@@ -1,6 +1,5 @@
 use Rattle.engine_model.proofs.writes.write_refused.Goals as goal
 use Rattle.engine_model.proofs.Births.{tried_births}
-use Rattle.engine_model.proofs.Bytes.{apart}
 use Rattle.engine_model.proofs.Pool.{tried_knows}
 use Rattle.engine_model.proofs.Schedule.{step_keeps}
 use Rattle.engine_model.specs.Schedule.{WriteRefused}

@@ -1,6 +1,5 @@
 use Rattle.engine_model.proofs.writes.write_taken.Goals as goal
 use Rattle.engine_model.proofs.Births.{failed_births}
-use Rattle.engine_model.proofs.Bytes.{apart}
 use Rattle.engine_model.proofs.DeviceMoves.{page_taken_is, page_taken_keeps, page_taken_kept}
 use Rattle.engine_model.proofs.Pool.{failed_knows}
 use Rattle.engine_model.proofs.Schedule.{step_keeps}
