@@ -1,7 +1,6 @@
 //! A page that the pool gives has count 0 in the cache and in every possible content of its count page.
 
 ghost use Rattle.std.specs.Prelude.{◌≡◌, ℕ, Bool, true};
-ghost use Rattle.engine_model.specs.Births.{told};
 ghost use Rattle.engine_model.specs.Entries.{IsData};
 ghost use Rattle.engine_model.specs.Invariant.{EngineInvariant, Moment};
 ghost use Rattle.engine_model.specs.Known.{Free};
