@@ -1,0 +1,59 @@
+//! Concrete small states that meet the step relations, so that none of them is empty.
+
+ghost use Rattle.std.specs.Prelude.{◌≡◌, ◌∷◌, [], false, true};
+ghost use Rattle.engine_model.specs.Commands.{Gains, PageContent, Renamed};
+ghost use Rattle.engine_model.specs.Edits.{ContentEdits, Edits, Grown};
+ghost use Rattle.engine_model.specs.Entries.{Apart};
+ghost use Rattle.engine_model.specs.Examples.{applied, asked, dropped_release, empty, empty_array, printed, waiting, written, written_array};
+ghost use Rattle.engine_model.specs.FlushSession.{count_out, flush_moments, flushed, switch_moments, waits_for_barrier};
+ghost use Rattle.engine_model.specs.Invariant.{EngineInvariant, ToldPool, known_at};
+ghost use Rattle.engine_model.specs.Known.{Tells};
+ghost use Rattle.engine_model.specs.Pair.{equal_pages, folded, pair};
+ghost use Rattle.engine_model.specs.Pass.{Pass};
+ghost use Rattle.engine_model.specs.Releases.{Applied};
+ghost use Rattle.engine_model.specs.Schedule.{Run};
+ghost use Rattle.engine_model.specs.Session.{count_gone, discarded, dropped, mounted, wrote};
+ghost use Rattle.engine_model.specs.SmallRuns.{SmallRun, SmallStep};
+ghost use Rattle.engine_model.specs.SmallSession.{content_placed, small_moments};
+ghost use Rattle.engine_model.specs.SmallSteps.{touched};
+ghost use Rattle.engine_model.specs.VersionSwitch.{SwitchRun, SwitchStart};
+
+/// The edits of a write to a fresh page, of an applied release that takes a print away, and of a fold; so edits in
+/// general, and a touched page.
+pub fn edits_are_possible()
+    ensures written { Tells printed empty (asked true) × Renamed printed (asked true) 5 empty written 0 0 1
+        × PageContent printed (asked true) empty written 0 1 (7 ∷ []) × Gains empty_array written_array 0 (7 ∷ []) }
+    ensures applied { Tells printed waiting (asked false)
+        × Applied printed (asked false) waiting applied dropped_release [] [] }
+    ensures folded { Renamed pair (asked false) 5 equal_pages folded 1 2 1
+        × PageContent pair (asked false) equal_pages folded 1 1 (equal_pages.cached (pair.data_page 2)) }
+    ensures general { Edits printed 5 empty written
+        × ContentEdits printed true empty_array written_array empty written }
+    ensures grown { Grown printed 5 empty (touched 1 empty) × ToldPool printed mounted content_placed }
+{}
+
+/// A session in small: a block is written and discarded, its release is applied and its content dropped, no page
+/// was written, and one is free. The last two steps are a pass.
+pub fn a_session_is_possible()
+    ensures start { Apart printed × EngineInvariant printed 5 true mounted }
+    ensures run { Run printed 5 mounted (wrote ∷ (discarded ∷ (count_gone ∷ (dropped ∷ [])))) }
+    ensures pass { Pass printed discarded [] discarded.world.queue dropped }
+    ensures free { (known_at printed dropped).free 1 ≡ true }
+{}
+
+/// The same by small steps, and a Barrier edge from a page that is hung.
+pub fn small_steps_are_possible()
+    ensures run { SmallRun printed 5 mounted small_moments }
+    ensures barrier_edge { SmallStep printed 5 count_out waits_for_barrier }
+{}
+
+/// What was written goes out, with one write that fails and is taken; then each block has its last content, a
+/// correction finds nothing, and the block is written again with what it holds.
+pub fn a_flush_is_possible()
+    ensures run { Run printed 5 wrote flush_moments }
+{}
+
+/// After the flush the version is changed.
+pub fn a_switch_is_possible()
+    ensures run { SwitchStart printed 5 true flushed × SwitchRun printed (9 ∷ []) flushed flushed switch_moments }
+{}
