@@ -29,9 +29,9 @@ impl Bench {
         Ok(Bench { device, store })
     }
 
-    // The calls that the store counted. The log of the device has as many.
+    // The writes and barriers of the device so far.
     pub fn calls(&self) -> u64 {
-        self.store.calls()
+        self.device.calls()
     }
 
     // The page that a device call wrote, counted from 0, or none where it was a barrier.

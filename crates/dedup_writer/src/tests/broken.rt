@@ -3,7 +3,7 @@ ghost use Rattle.std.specs.Prelude.{IsErr};
 ghost use Rattle.page_device.specs.FileSeen.{file_seen, no_pages};
 ghost use Rattle.page_device.specs.Meaning.{HasCause};
 
-use crate::{Refusal, Store};
+use crate::Store;
 use page_device::{Device, Failed, Page};
 use page_layout::Shape;
 use std::test::Fail;
@@ -53,12 +53,13 @@ impl Device for Broken {
 #[test]
 fn reads_zeros_without_a_call(rt: HostRuntime) -> Result<(), Fail> {
     let shape = Shape::new(4, 4)?;
-    assert!(rt; shape.total() <= 8);
     let mut store = Store::fresh(rt.alloc(), shape)?;
+    assert_eq!(rt; store.shape().total(), 8);
     let mut device = Broken { faults: 0 };
     let mut page = Page::numbered(7);
     assert_eq!(rt; store.read(&mut device, 3, &mut page), Ok(()));
     assert_eq!(rt; page.bytes(), Page::zero().bytes());
     assert_eq!(rt; device.faults, 0);
+    assert_eq!(rt; store.calls(), 0);
     Ok(())
 }
