@@ -1,3 +1,4 @@
 pub mod CountingLemmas
 pub mod ArrayLemmas
 pub mod RunLemmas
+pub mod LawLemmas

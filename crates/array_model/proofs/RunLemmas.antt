@@ -1,5 +1,5 @@
 -- One turn more of a run.
-use Rattle.std.proofs.Common.{◌≡◌, ℕ, ◌+◌, List, [], ◌∷◌, ◌++◌, length, Option, Some, None, refl, sym, ◌∙◌, ap, subst, append_assoc, map}
+use Rattle.std.proofs.Common.{◌≡◌, ℕ, ◌+◌, List, [], ◌∷◌, ◌++◌, length, Option, Some, None, refl, sym, ◌∙◌, ap, subst, append_assoc}
 use Rattle.std.proofs.lemmas.List.{append-nil}
 use Rattle.page_device.specs.declared.device.LogEntry.{LogEntry}
 use Rattle.page_device.specs.Block.{Block}
@@ -9,7 +9,7 @@ use Rattle.page_device.specs.Runs.{Runs, all_calls, after_turns}
 use Rattle.trace_text.specs.Texts.{text_of}
 use Rattle.array_model.specs.Images.{Mode}
 use Rattle.array_model.specs.Array.{BlockArray}
-use Rattle.array_model.specs.Turns.{Turn, Work, answered, closing, Rules, RunState, Asks, FitsAsked, IsRun, after_turn, state_after_turns, at_after, texts, lines_of, works_of, joined, AreLines, IsLine, calls_of, array_after_work, MayLeave, calls_of_works, array_after_works, WorksLeave}
+use Rattle.array_model.specs.Turns.{Turn, Work, answered, Rules, RunState, Asks, FitsAsked, IsRun, after_turn, state_after_turns, at_after, texts, lines_of, works_of, joined, AreLines, IsLine, calls_of, array_after_work, MayLeave, calls_of_works, array_after_works, WorksLeave}
 
 module _ {A T : Type 0} (calls : T → List LogEntry) (next : A → T → A) (P : A → Option T → List Block → Type 0) where
   all_calls-last : (ts : List T) (t : T) → all_calls calls next P (ts ++ t ∷ []) ≡ all_calls calls next P ts ++ calls t

@@ -1,8 +1,7 @@
 -- When an image is fit, sound or tight.
-use Rattle.std.specs.Prelude.{◌≡◌, ◌≢◌, ℕ, ◌<◌, ◌≤◌, ◌==◌, if◌then◌else◌, List, Option, Some, None, IsSome}
+use Rattle.std.specs.Prelude.{◌≡◌, ◌≢◌, ℕ, ◌≤◌, ◌==◌, if◌then◌else◌, List, Some, IsSome}
 use Rattle.page_device.specs.Block.{Block, zero_block}
-use Rattle.page_layout.specs.Shape.{ShapeView}
-use Rattle.page_layout.specs.Tables.{page_of, shape_of, HasShape, IsWellFormed, map_of, count_of, print_of, data_of}
+use Rattle.page_layout.specs.Tables.{shape_of, HasShape, IsWellFormed, map_of, count_of, print_of, data_of}
 use Rattle.page_layout.specs.Fingerprint.{fingerprint_of}
 use Rattle.array_model.specs.Counting.{count_below}
 

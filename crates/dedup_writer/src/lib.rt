@@ -7,5 +7,7 @@
 
 mod put;
 mod store;
+#[cfg(test)]
+mod tests;
 
 pub use store::{Refusal, Store};
