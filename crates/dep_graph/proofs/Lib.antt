@@ -1,0 +1,4 @@
+pub mod RisingLemmas
+pub mod PageLemmas
+pub mod WaitLemmas
+pub mod PairLemmas

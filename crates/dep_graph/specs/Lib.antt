@@ -1,0 +1,4 @@
+pub mod Rising
+pub mod Pages
+pub mod Waits
+pub mod Pairs
