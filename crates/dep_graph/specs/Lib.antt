@@ -2,3 +2,6 @@ pub mod Rising
 pub mod Pages
 pub mod Waits
 pub mod Pairs
+pub mod Paths
+pub mod Lists
+pub mod Kept

@@ -46,6 +46,19 @@ pub fn insert(pages: &mut Vec<u32>, page: u32) -> usize
     at
 }
 
+// Puts a page in where it is not there.
+pub fn include(pages: &mut Vec<u32>, page: u32)
+    requires rising { IsRising pages.old.items }
+    requires room { holds pages.old.items page ≡ false → vec_len pages.old < vec_capacity pages.old }
+    ensures pages { (a : ℕ) → holds pages.new.items a ≡ holds pages.old.items a || eqb a page }
+    ensures rising { IsRising pages.new.items }
+    ensures room { vec_capacity pages.new ≡ vec_capacity pages.old }
+{
+    if !contains(pages, page) {
+        insert(pages, page);
+    }
+}
+
 // Takes out a page that is there, and says where it was.
 pub fn remove(pages: &mut Vec<u32>, page: u32) -> usize
     requires rising { IsRising pages.old.items }

@@ -1,0 +1,177 @@
+-- What the vectors of a graph say of its lists.
+use Rattle.std.proofs.Common.{◌≡◌, ◌⊎◌, inl, inr, ℕ, zero, suc, ◌+◌, ◌-◌, ◌<◌, ◌≤◌, Bool, true, false, not, ◌&&◌, ◌||◌, cond, List, [], ◌∷◌, ◌++◌, length, take, drop, get_or, map, filter, refl, sym, ◌∙◌, ap, subst, arith, eqb, eqb-true, eq-eqb, ne_eqb}
+use Rattle.std.specs.List.{list_any}
+use Rattle.std.proofs.lemmas.Bool.{cases_Bool, cases_eq, or_left, or_right}
+use Rattle.dep_graph.specs.declared.pairs.Pair.{Pair}
+use Rattle.dep_graph.specs.Pages.{holds, IsRising}
+use Rattle.dep_graph.specs.Pairs.{has_pair, ends_at, from_page, not_from_page}
+use Rattle.dep_graph.specs.Lists.{Edge, GraphLists, IsGraph, barrier_edge, edges_of, is_live, live_edge}
+use Rattle.dep_graph.specs.Waits.{Waits, waits_for}
+use Rattle.std.proofs.lemmas.List.Filters.{length-filter_both}
+use Rattle.dep_graph.specs.Kept.{IsKept}
+use Rattle.dep_graph.proofs.PathLemmas.{acyclic_fewer}
+use Rattle.dep_graph.proofs.PageLemmas.{fewer}
+
+any_append : {X : Type 0} (q : X → Bool) (xs ys : List X) → list_any q (xs ++ ys) ≡ list_any q xs || list_any q ys
+any_append q [] ys = refl
+any_append q (x ∷ xs) ys = rw (any_append q xs ys) (join (q x) (list_any q xs) (list_any q ys))
+  where
+    join : (x y z : Bool) → (x || (y || z)) ≡ ((x || y) || z)
+    join x y z = grind arith
+
+-- a test of edges, over edges of one kind
+any_map : {X Y : Type 0} (f : X → Y) (q : Y → Bool) (r : X → Bool) → ((x : X) → q (f x) ≡ r x) → (xs : List X) → list_any q (map f xs) ≡ list_any r xs
+any_map f q r same [] = refl
+any_map f q r same (x ∷ xs) = rw (same x, any_map f q r same xs)
+
+none : {X : Type 0} (xs : List X) → list_any (λ x. false) xs ≡ false
+none [] = refl
+none (x ∷ xs) = none xs
+
+on_true : (x y : Bool) → (x && (y && true)) ≡ (x && y)
+on_true x y = grind arith
+
+on_false : (x y : Bool) → (x && (y && false)) ≡ false
+on_false x y = grind arith
+
+nothing_more : (x : Bool) → (x || false) ≡ x
+nothing_more x = grind arith
+
+pub live_is : (live barred : List Pair) (a b : ℕ) → list_any (λ (e : Edge). eqb e.before a && (eqb e.after b && is_live e.kind)) (edges_of live barred) ≡ has_pair live a b
+live_is live barred a b =
+    any_append (λ (e : Edge). eqb e.before a && (eqb e.after b && is_live e.kind)) (map live_edge live) (map barrier_edge barred)
+    ∙ rw (any_map live_edge (λ (e : Edge). eqb e.before a && (eqb e.after b && is_live e.kind)) (λ p. eqb p.before a && eqb p.after b) (λ p. on_true (eqb p.before a) (eqb p.after b)) live,
+        any_map barrier_edge (λ (e : Edge). eqb e.before a && (eqb e.after b && is_live e.kind)) (λ p. false) (λ p. on_false (eqb p.before a) (eqb p.after b)) barred,
+        none barred) (nothing_more (has_pair live a b))
+
+pub barred_is : (live barred : List Pair) (a b : ℕ) → list_any (λ (e : Edge). eqb e.before a && (eqb e.after b && not (is_live e.kind))) (edges_of live barred) ≡ has_pair barred a b
+barred_is live barred a b =
+    any_append (λ (e : Edge). eqb e.before a && (eqb e.after b && not (is_live e.kind))) (map live_edge live) (map barrier_edge barred)
+    ∙ rw (any_map live_edge (λ (e : Edge). eqb e.before a && (eqb e.after b && not (is_live e.kind))) (λ p. false) (λ p. on_false (eqb p.before a) (eqb p.after b)) live,
+        any_map barrier_edge (λ (e : Edge). eqb e.before a && (eqb e.after b && not (is_live e.kind))) (λ p. eqb p.before a && eqb p.after b) (λ p. on_true (eqb p.before a) (eqb p.after b)) barred,
+        none live)
+
+ends_any : (ps : List Pair) (b : ℕ) → list_any (λ p. eqb p.after b) ps ≡ not (eqb (ends_at ps b) 0)
+unfolding ends_at
+ends_any [] b = refl
+ends_any (p ∷ ps) b = elim (cases_Bool (eqb p.after b)) [
+  | inl is ↦ rw (is, ne_eqb (1 + ends_at ps b) 0 (λ e. omega arith))
+  | inr off ↦ rw (off, ends_any ps b) (let same : 0 + ends_at ps b ≡ ends_at ps b = omega arith in rw same)
+]
+
+both_none : (x y : ℕ) → not (eqb x 0) || not (eqb y 0) ≡ not (eqb (x + y) 0)
+both_none x y = elim (cases_eq x 0) [
+  | inl e ↦ elim (cases_eq y 0) [
+    | inl f ↦ rw (eq-eqb x 0 e, eq-eqb y 0 f, eq-eqb (x + y) 0 (omega arith))
+    | inr nf ↦ rw (eq-eqb x 0 e, ne_eqb y 0 nf, ne_eqb (x + y) 0 (λ g. nf (omega arith)))
+  ]
+  | inr ne ↦ rw (ne_eqb x 0 ne, ne_eqb (x + y) 0 (λ g. ne (omega arith)))
+]
+
+-- the pages to which an edge leads are those that an edge of one kind or the other ends at
+pub waits_is : (live barred : List Pair) (b : ℕ) → list_any (λ (e : Edge). eqb e.after b) (edges_of live barred) ≡ not (eqb (ends_at live b + ends_at barred b) 0)
+waits_is live barred b =
+    any_append (λ (e : Edge). eqb e.after b) (map live_edge live) (map barrier_edge barred)
+    ∙ rw (any_map live_edge (λ (e : Edge). eqb e.after b) (λ p. eqb p.after b) (λ p. refl) live, any_map barrier_edge (λ (e : Edge). eqb e.after b) (λ p. eqb p.after b) (λ p. refl) barred, ends_any live b, ends_any barred b)
+        (both_none (ends_at live b) (ends_at barred b))
+
+pub graph_of : (dirty : Waits) (hung nodes : List ℕ) (live barred : List Pair) (n e : ℕ) → IsKept dirty hung nodes live barred
+    → IsGraph (record { dirty = dirty.pages; hung = hung; edges = edges_of live barred; spare_nodes = n; spare_edges = e })
+graph_of dirty hung nodes live barred n e k = record {
+  dirty_once = k.dirty_rising;
+  hung_once = k.hung_rising;
+  live_ends = λ a b h. k.live_ends a b (sym (live_is live barred a b) ∙ h);
+  barred_ends = λ a b h. k.barred_ends a b (sym (barred_is live barred a b) ∙ h);
+  acyclic = acyclic_fewer (has_pair live) _ (λ a b h. sym (live_is live barred a b) ∙ h) k.acyclic;
+}
+
+-- no more pages are dirty or hung than there are nodes
+pub dirty_within : (dirty : Waits) (hung nodes : List ℕ) (live barred : List Pair) → IsKept dirty hung nodes live barred → length dirty.pages ≤ length nodes
+dirty_within dirty hung nodes live barred k = fewer dirty.pages nodes k.dirty_rising k.nodes_rising (λ a h. k.node a ∙ or_left _ _ h)
+
+pub hung_within : (dirty : Waits) (hung nodes : List ℕ) (live barred : List Pair) → IsKept dirty hung nodes live barred → length hung ≤ length nodes
+hung_within dirty hung nodes live barred k = fewer hung nodes k.hung_rising k.nodes_rising (λ a h. k.node a ∙ or_right _ _ h)
+
+-- where a pair ends, the number of those that end there is above 0
+pub has_ends : (ps : List Pair) (a b : ℕ) → has_pair ps a b ≡ true → 0 < ends_at ps b
+unfolding ends_at
+has_ends [] a b h = absurd (cc)
+has_ends (p ∷ ps) a b h = elim (cases_Bool (eqb p.after b)) [
+  | inl is ↦ rw is (omega arith)
+  | inr off ↦ let rest = has_ends ps a b (rw (off, never (eqb p.before a) (has_pair ps a b)) at h) in rw off (omega arith)
+]
+  where
+    never : (x y : Bool) → ((x && false) || y) ≡ y
+    never x y = grind arith
+
+-- what the pairs that begin at a page, and the others, hold
+pub has_from : (ps : List Pair) (page a b : ℕ) → has_pair (from_page ps page) a b ≡ has_pair ps a b && eqb a page
+has_from [] page a b = refl
+has_from (p ∷ ps) page a b = elim (cases_Bool (eqb p.before page)) [
+  | inl is ↦ rw (is, has_from ps page a b) (elim (cases_eq p.before a) [
+    | inl e ↦ rw (e, ap (λ x. eqb x page) (sym e) ∙ is) (yes_here (eqb a a && eqb p.after b) (has_pair ps a b))
+    | inr ne ↦ rw (ne_eqb p.before a ne)
+  ])
+  | inr off ↦ rw (off, has_from ps page a b) (elim (cases_eq p.before a) [
+    | inl e ↦ rw (e, ap (λ x. eqb x page) (sym e) ∙ off) (not_here (eqb a a && eqb p.after b) (has_pair ps a b))
+    | inr ne ↦ rw (ne_eqb p.before a ne)
+  ])
+]
+  where
+    yes_here : (x y : Bool) → (x || (y && true)) ≡ ((x || y) && true)
+    yes_here x y = grind arith
+
+    not_here : (x y : Bool) → (y && false) ≡ ((x || y) && false)
+    not_here x y = grind arith
+
+pub has_not_from : (ps : List Pair) (page a b : ℕ) → has_pair (not_from_page ps page) a b ≡ has_pair ps a b && not (eqb a page)
+has_not_from [] page a b = refl
+has_not_from (p ∷ ps) page a b = elim (cases_Bool (eqb p.before page)) [
+  | inl is ↦ rw (is, has_not_from ps page a b) (elim (cases_eq p.before a) [
+    | inl e ↦ rw (e, ap (λ x. eqb x page) (sym e) ∙ is) (gone (eqb a a && eqb p.after b) (has_pair ps a b))
+    | inr ne ↦ rw (ne_eqb p.before a ne)
+  ])
+  | inr off ↦ rw (off, has_not_from ps page a b) (elim (cases_eq p.before a) [
+    | inl e ↦ rw (e, ap (λ x. eqb x page) (sym e) ∙ off) (stays (eqb a a && eqb p.after b) (has_pair ps a b))
+    | inr ne ↦ rw (ne_eqb p.before a ne)
+  ])
+]
+  where
+    gone : (x y : Bool) → (y && not true) ≡ ((x || y) && not true)
+    gone x y = grind arith
+
+    stays : (x y : Bool) → (x || (y && not false)) ≡ ((x || y) && not false)
+    stays x y = grind arith
+
+pub ends_parts : (ps : List Pair) (page b : ℕ) → ends_at (from_page ps page) b + ends_at (not_from_page ps page) b ≡ ends_at ps b
+unfolding ends_at
+ends_parts [] page b = omega arith
+ends_parts (p ∷ ps) page b = let rest = ends_parts ps page b in elim (cases_Bool (eqb p.before page)) [
+  | inl is ↦ rw is (omega arith)
+  | inr off ↦ rw off (omega arith)
+]
+
+-- a page to which no edge leads has the number 0
+pub none_leads : (dirty : Waits) (hung nodes : List ℕ) (live barred : List Pair) (page : ℕ) → IsKept dirty hung nodes live barred → list_any (λ (e : Edge). eqb e.after page) (edges_of live barred) ≡ false → waits_for dirty page ≡ 0
+none_leads dirty hung nodes live barred page k off = elim (cases_eq (waits_for dirty page) 0) [
+  | inl e ↦ e
+  | inr ne ↦ absurd (let is : not (eqb (waits_for dirty page) 0) ≡ false = ap (λ n. not (eqb n 0)) (k.counts page) ∙ sym (waits_is live barred page) ∙ off in let no' = ne_eqb _ _ ne in let bad : true ≡ false = sym (ap not no') ∙ is in cc)
+]
+
+pub ready_is : (dirty : Waits) (hung nodes : List ℕ) (live barred : List Pair) (page : ℕ) → IsKept dirty hung nodes live barred
+    → (holds dirty.pages page && eqb (waits_for dirty page) 0) ≡ (holds dirty.pages page && not (list_any (λ (e : Edge). eqb e.after page) (edges_of live barred)))
+ready_is dirty hung nodes live barred page k = rw (waits_is live barred page, k.counts page) (twice (holds dirty.pages page) (eqb (ends_at live page + ends_at barred page) 0))
+  where
+    twice : (x y : Bool) → (x && y) ≡ (x && not (not y))
+    twice x y = grind arith
+
+pub ends_le : (ps : List Pair) (b : ℕ) → ends_at ps b ≤ length ps
+unfolding ends_at
+ends_le [] b = omega arith
+ends_le (p ∷ ps) b = let rest = ends_le ps b in elim (cases_Bool (eqb p.after b)) [
+  | inl is ↦ rw is (omega arith)
+  | inr off ↦ rw off (omega arith)
+]
+
+pub length_parts : (ps : List Pair) (page : ℕ) → length (from_page ps page) + length (not_from_page ps page) ≡ length ps
+length_parts ps page = length-filter_both (λ (p : Pair). eqb p.before page) (λ p. not (eqb p.before page)) (λ x. refl) ps
