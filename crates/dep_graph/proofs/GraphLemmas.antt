@@ -1,16 +1,17 @@
 -- What the vectors of a graph say of its lists.
-use Rattle.std.proofs.Common.{◌≡◌, ◌⊎◌, inl, inr, ℕ, zero, suc, ◌+◌, ◌-◌, ◌<◌, ◌≤◌, Bool, true, false, not, ◌&&◌, ◌||◌, cond, List, [], ◌∷◌, ◌++◌, length, take, drop, get_or, map, filter, refl, sym, ◌∙◌, ap, subst, arith, eqb, eqb-true, eq-eqb, ne_eqb}
+use Rattle.std.proofs.Common.{◌≡◌, ◌⊎◌, inl, inr, ℕ, zero, suc, ◌+◌, ◌-◌, ◌<◌, ◌≤◌, Bool, true, false, not, ◌&&◌, ◌||◌, cond, List, [], ◌∷◌, ◌++◌, length, take, drop, get_or, map, filter, refl, sym, ◌∙◌, ap, subst, arith, eqb, eqb-true, eq-eqb, ne_eqb, Option, Some, None}
 use Rattle.std.specs.List.{list_any}
-use Rattle.std.proofs.lemmas.Bool.{cases_Bool, cases_eq, or_left, or_right}
+use Rattle.std.proofs.lemmas.Bool.{cases_Bool, cases_eq, or_from, or_left, or_right}
 use Rattle.dep_graph.specs.declared.pairs.Pair.{Pair}
-use Rattle.dep_graph.specs.Pages.{holds, IsRising}
+use Rattle.dep_graph.specs.Pages.{holds, IsLeast}
 use Rattle.dep_graph.specs.Pairs.{has_pair, ends_at, from_page, not_from_page}
 use Rattle.dep_graph.specs.Lists.{Edge, GraphLists, IsGraph, barrier_edge, edges_of, is_live, live_edge}
 use Rattle.dep_graph.specs.Waits.{Waits, waits_for}
 use Rattle.std.proofs.lemmas.List.Filters.{length-filter_both}
 use Rattle.dep_graph.specs.Kept.{IsKept}
 use Rattle.dep_graph.proofs.PathLemmas.{acyclic_fewer}
-use Rattle.dep_graph.proofs.PageLemmas.{fewer}
+use Rattle.dep_graph.proofs.PageLemmas.{as_long, fewer, fewer_by_one, holds_filter}
+use Rattle.dep_graph.proofs.RisingLemmas.{rises_filter}
 
 any_append : {X : Type 0} (q : X → Bool) (xs ys : List X) → list_any q (xs ++ ys) ≡ list_any q xs || list_any q ys
 any_append q [] ys = refl
@@ -175,3 +176,97 @@ ends_le (p ∷ ps) b = let rest = ends_le ps b in elim (cases_Bool (eqb p.after 
 
 pub length_parts : (ps : List Pair) (page : ℕ) → length (from_page ps page) + length (not_from_page ps page) ≡ length ps
 length_parts ps page = length-filter_both (λ (p : Pair). eqb p.before page) (λ p. not (eqb p.before page)) (λ x. refl) ps
+
+-- the least of the same pages
+pub least_same : (P Q : ℕ → Type 0) (from : ℕ) (r : Option ℕ) → ((a : ℕ) → P a → Q a) → ((a : ℕ) → Q a → P a) → IsLeast P from r → IsLeast Q from r
+least_same P Q from (Some page) to back h = (to page h.0, h.1, λ a q. h.2 a (back a q))
+least_same P Q from None to back h = λ a q. h a (back a q)
+
+-- room for one dirty page more, where it is not dirty
+pub dirty_room : (dirty : Waits) (hung nodes : List ℕ) (live barred : List Pair) (page spare : ℕ) → IsKept dirty hung nodes live barred → holds dirty.pages page ≡ false
+    → ((holds dirty.pages page || holds hung page) ≡ false → 0 < spare) → length dirty.pages < length nodes + spare
+dirty_room dirty hung nodes live barred page spare k off room = elim (cases_Bool (holds hung page)) [
+  | inl on ↦
+      let lt : length dirty.pages < length nodes = fewer_by_one dirty.pages nodes page k.dirty_rising k.nodes_rising (λ a h. k.node a ∙ or_left _ _ h) (k.node page ∙ or_right _ _ on) off in
+      omega arith
+  | inr none' ↦
+      let some : 0 < spare = room (or_from _ _ off none') in
+      let le = dirty_within dirty hung nodes live barred k in
+      omega arith
+]
+
+pub there_already : (x : Bool) (f : ℕ → Bool) (a page : ℕ) → f page ≡ true → ((x || eqb a page) || f a) ≡ (x || f a)
+there_already x f a page on = elim (cases_eq a page) [
+  | inl e ↦ rw (e, on) (ends x (eqb page page))
+  | inr ne ↦ rw (ne_eqb a page ne) (nothing x (f a))
+]
+  where
+    ends : (x y : Bool) → ((x || y) || true) ≡ (x || true)
+    ends x y = grind arith
+
+    nothing : (x y : Bool) → ((x || false) || y) ≡ (x || y)
+    nothing x y = grind arith
+
+-- no Live edge leads from a page that is not dirty
+pub none_from : (dirty : Waits) (hung nodes : List ℕ) (live barred : List Pair) (page a b : ℕ) → IsKept dirty hung nodes live barred → holds dirty.pages page ≡ false → has_pair live a b ≡ has_pair live a b && not (eqb a page)
+none_from dirty hung nodes live barred page a b k off = elim (cases_eq a page) [
+  | inr ne ↦ rw (ne_eqb a page ne) (keeps (has_pair live a b))
+  | inl e ↦ elim (cases_Bool (has_pair live a b)) [
+    | inr none' ↦ rw none'
+    | inl on ↦ absurd (let held = (k.live_ends a b on).0 in let same = ap (holds dirty.pages) e in cc)
+  ]
+]
+  where
+    keeps : (x : Bool) → x ≡ (x && not false)
+    keeps x = grind arith
+
+filter_append : {X : Type 0} (q : X → Bool) (xs ys : List X) → length (filter q (xs ++ ys)) ≡ length (filter q xs) + length (filter q ys)
+filter_append q [] ys = omega arith
+filter_append q (x ∷ xs) ys = let rest = filter_append q xs ys in elim (cases_Bool (q x)) [
+  | inl is ↦ rw is (omega arith)
+  | inr off ↦ rw off rest
+]
+
+filter_map' : {X Y : Type 0} (f : X → Y) (q : Y → Bool) (r : X → Bool) → ((x : X) → q (f x) ≡ r x) → (xs : List X) → length (filter q (map f xs)) ≡ length (filter r xs)
+filter_map' f q r same [] = refl
+filter_map' f q r same (x ∷ xs) = let rest = filter_map' f q r same xs in elim (cases_Bool (r x)) [
+  | inl is ↦ rw (same x, is) (ap (λ n. suc n) rest)
+  | inr off ↦ rw (same x, off) rest
+]
+
+filter_nothing : {X : Type 0} (xs : List X) → length (filter (λ x. false) xs) ≡ 0
+filter_nothing [] = refl
+filter_nothing (x ∷ xs) = filter_nothing xs
+
+pub waiters_are : (live barred : List Pair) (page : ℕ) → length (filter (λ (e : Edge). eqb e.before page && is_live e.kind) (edges_of live barred)) ≡ length (from_page live page)
+waiters_are live barred page =
+    filter_append (λ (e : Edge). eqb e.before page && is_live e.kind) (map live_edge live) (map barrier_edge barred)
+    ∙ rw (filter_map' live_edge (λ (e : Edge). eqb e.before page && is_live e.kind) (λ p. eqb p.before page) (λ p. yes_live (eqb p.before page)) live,
+        filter_map' barrier_edge (λ (e : Edge). eqb e.before page && is_live e.kind) (λ p. false) (λ p. not_live (eqb p.before page)) barred, filter_nothing barred) (omega arith)
+  where
+    yes_live : (x : Bool) → (x && true) ≡ x
+    yes_live x = grind arith
+
+    not_live : (x : Bool) → (x && false) ≡ false
+    not_live x = grind arith
+
+-- each node is dirty, or hung and not dirty
+pub nodes_are : (dirty : Waits) (hung nodes : List ℕ) (live barred : List Pair) → IsKept dirty hung nodes live barred → length nodes ≡ length dirty.pages + length (filter (λ a. not (holds dirty.pages a)) hung)
+nodes_are dirty hung nodes live barred k =
+    let both = length-filter_both (holds dirty.pages) (λ a. not (holds dirty.pages a)) (λ a. refl) nodes in
+    let marked = as_long (filter (holds dirty.pages) nodes) dirty.pages (rises_filter (λ a b. a < b) (holds dirty.pages) nodes k.nodes_rising) k.dirty_rising
+        (λ a. holds_filter (holds dirty.pages) nodes a ∙ rw (k.node a) (only (holds dirty.pages a) (holds hung a))) in
+    let others = as_long (filter (λ a. not (holds dirty.pages a)) nodes) (filter (λ a. not (holds dirty.pages a)) hung) (rises_filter (λ a b. a < b) (λ a. not (holds dirty.pages a)) nodes k.nodes_rising)
+        (rises_filter (λ a b. a < b) (λ a. not (holds dirty.pages a)) hung k.hung_rising)
+        (λ a. holds_filter (λ a. not (holds dirty.pages a)) nodes a ∙ rw (k.node a) (rest (holds dirty.pages a) (holds hung a)) ∙ sym (holds_filter (λ a. not (holds dirty.pages a)) hung a)) in
+    omega arith
+  where
+    only : (x y : Bool) → ((x || y) && x) ≡ x
+    only x y = grind arith
+
+    rest : (x y : Bool) → ((x || y) && not x) ≡ (y && not x)
+    rest x y = grind arith
+
+-- room for one hung page more, where a dirty page is not hung
+pub hung_room : (dirty : Waits) (hung nodes : List ℕ) (live barred : List Pair) (page : ℕ) → IsKept dirty hung nodes live barred → holds dirty.pages page ≡ true → holds hung page ≡ false → length hung < length nodes
+hung_room dirty hung nodes live barred page k on off = fewer_by_one hung nodes page k.hung_rising k.nodes_rising (λ a h. k.node a ∙ or_right _ _ h) (k.node page ∙ or_left _ _ on) off

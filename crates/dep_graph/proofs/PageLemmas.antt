@@ -1,6 +1,6 @@
 -- Look-ups in lists of page numbers.
-use Rattle.std.proofs.Common.{◌≡◌, inl, inr, ℕ, zero, suc, ◌+◌, ◌<◌, ◌≤◌, Bool, true, false, not, ◌&&◌, ◌||◌, List, [], ◌∷◌, ◌++◌, length, take, drop, get_or, refl, sym, ◌∙◌, ap, subst, arith, eqb, ltb, eqb-true, eq-eqb, ne_eqb}
-use Rattle.std.proofs.lemmas.Bool.{cases_eq, cases_lt, or_parts, or_right, lt-ltb, ltb-true, ltb-false}
+use Rattle.std.proofs.Common.{◌≡◌, inl, inr, ℕ, zero, suc, ◌+◌, ◌<◌, ◌≤◌, Bool, true, false, not, ◌&&◌, ◌||◌, List, [], ◌∷◌, ◌++◌, length, take, drop, filter, get_or, refl, sym, ◌∙◌, ap, subst, arith, eqb, ltb, eqb-true, eq-eqb, ne_eqb}
+use Rattle.std.proofs.lemmas.Bool.{cases_Bool, cases_eq, cases_lt, or_parts, or_right, lt-ltb, ltb-true, ltb-false}
 use Rattle.std.specs.List.Sorted.{IsPartitionedBy, IsPartitionPoint}
 use Rattle.dep_graph.specs.Rising.{Leads, Rises}
 use Rattle.dep_graph.specs.Pages.{holds, IsAt, IsPlace, IsRising}
@@ -165,3 +165,26 @@ least_from ps k from a up at h le =
       | inl same ↦ let e : get_or ps k 0 ≡ a = ap (λ i. get_or ps i 0) same ∙ is in omega arith
       | inr other ↦ let lt : get_or ps k 0 < get_or ps w.0 0 = rises_at (λ a b. a < b) ps 0 up k w.0 (omega (arith, after, other)) w.1 in omega arith
     ])
+
+pub holds_filter : (q : ℕ → Bool) (ps : List ℕ) (a : ℕ) → holds (filter q ps) a ≡ holds ps a && q a
+holds_filter q [] a = refl
+holds_filter q (p ∷ ps) a = elim (cases_eq p a) [
+  | inl e ↦ elim (cases_Bool (q p)) [
+    | inl is ↦ rw (is, holds_filter q ps a, eq-eqb p a e, ap q (sym e), is)
+    | inr off ↦ rw (off, holds_filter q ps a, eq-eqb p a e, ap q (sym e), off) (never (holds ps a))
+  ]
+  | inr ne ↦ elim (cases_Bool (q p)) [
+    | inl is ↦ rw (is, holds_filter q ps a, ne_eqb p a ne)
+    | inr off ↦ rw (off, holds_filter q ps a, ne_eqb p a ne)
+  ]
+]
+  where
+    never : (x : Bool) → (x && false) ≡ false
+    never x = grind arith
+
+-- lists of the same pages are as long
+pub as_long : (ps qs : List ℕ) → IsRising ps → IsRising qs → ((a : ℕ) → holds ps a ≡ holds qs a) → length ps ≡ length qs
+as_long ps qs up on same =
+    let le = fewer ps qs up on (λ a h. sym (same a) ∙ h) in
+    let ge = fewer qs ps on up (λ a h. same a ∙ h) in
+    omega arith

@@ -93,22 +93,6 @@ pub range_filter : (ps : List Pair) (page first end : ℕ) → IsRange ps page f
 range_filter ps page first end r = let d : Pair = record { before = 0; after = 0 } in
     cut (λ (p : Pair). eqb p.before page) ps first end d r.order r.within (λ j lt. ne_eqb _ _ (λ e. let b = r.below j d lt in omega arith)) (λ j from lt. eq-eqb _ _ (r.inside j d from lt)) (λ j from lt. ne_eqb _ _ (λ e. let b = r.above j d from lt in omega arith))
 
-leads_filter : (q : Pair → Bool) (p : Pair) (ps : List Pair) → Leads Precedes p ps → Leads Precedes p (filter q ps)
-unfolding Leads
-leads_filter q p [] h = tt
-leads_filter q p (r ∷ rs) h = elim (cases_Bool (q r)) [
-  | inl is ↦ rw is (h.0, leads_filter q p rs h.1)
-  | inr off ↦ rw off (leads_filter q p rs h.1)
-]
-
-pub rising_filter : (q : Pair → Bool) (ps : List Pair) → AreRising ps → AreRising (filter q ps)
-unfolding Rises
-rising_filter q [] h = tt
-rising_filter q (p ∷ ps) h = elim (cases_Bool (q p)) [
-  | inl is ↦ rw is (leads_filter q p ps h.0, rising_filter q ps h.1)
-  | inr off ↦ rw off (rising_filter q ps h.1)
-]
-
 -- what a binary search at a page finds
 pub range_from : (ps : List Pair) (page first end : ℕ) → AreRising ps → first ≤ length ps → end ≤ length ps
     → IsPartitionPoint (λ (p : Pair). ltb p.before page ≡ true) (λ p. ltb p.before page ≡ false) ps first

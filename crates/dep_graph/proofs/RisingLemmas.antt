@@ -1,5 +1,5 @@
 -- Lists in rising order: what stands at a place, and what an insertion and a removal leave.
-use Rattle.std.proofs.Common.{inl, inr, ◌≡◌, ℕ, zero, suc, ◌+◌, ◌<◌, ◌≤◌, Bool, true, false, ◌||◌, List, [], ◌∷◌, ◌++◌, length, take, drop, get_or, refl, sym, subst, arith}
+use Rattle.std.proofs.Common.{inl, inr, ◌≡◌, ℕ, zero, suc, ◌+◌, ◌<◌, ◌≤◌, Bool, true, false, ◌||◌, List, [], ◌∷◌, ◌++◌, length, take, drop, get_or, filter, refl, sym, subst, arith}
 use Rattle.std.specs.List.Sorted.{IsPartitionedBy}
 use Rattle.std.specs.List.{list_any}
 use Rattle.std.proofs.lemmas.Bool.{cases_Bool, cases_eq}
@@ -60,6 +60,22 @@ module _ {X : Type 0} (R : X → X → Type 0) where
   rises_remove [] (suc k) h = tt
   rises_remove (x ∷ xs) zero h = h.1
   rises_remove (x ∷ xs) (suc k) h = (leads_remove x xs k h.0, rises_remove xs k h.1)
+
+  leads_filter : (q : X → Bool) (x : X) (xs : List X) → Leads R x xs → Leads R x (filter q xs)
+  unfolding Leads
+  leads_filter q x [] h = tt
+  leads_filter q x (y ∷ ys) h = elim (cases_Bool (q y)) [
+    | inl is ↦ rw is (h.0, leads_filter q x ys h.1)
+    | inr off ↦ rw off (leads_filter q x ys h.1)
+  ]
+
+  pub rises_filter : (q : X → Bool) (xs : List X) → Rises R xs → Rises R (filter q xs)
+  unfolding Rises
+  rises_filter q [] h = tt
+  rises_filter q (x ∷ xs) h = elim (cases_Bool (q x)) [
+    | inl is ↦ rw is (leads_filter q x xs h.0, rises_filter q xs h.1)
+    | inr off ↦ rw off (rises_filter q xs h.1)
+  ]
 
   module _ (same : X → X → Bool) (apart : (a b : X) → R a b → (same a b ≡ false) × (same b a ≡ false)) where
     none_led : (x : X) (xs : List X) → Leads R x xs → list_any (λ y. same y x) xs ≡ false
