@@ -6,3 +6,4 @@ pub mod MoveLemmas
 pub mod PathLemmas
 pub mod GraphLemmas
 pub mod KeptLemmas
+pub mod SearchLemmas

@@ -4,4 +4,5 @@ pub mod Waits
 pub mod Pairs
 pub mod Paths
 pub mod Lists
+pub mod Trails
 pub mod Kept

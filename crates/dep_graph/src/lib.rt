@@ -6,6 +6,7 @@ mod moves;
 mod pages;
 mod pairs;
 mod room;
+mod search;
 mod waiting;
 
 pub use graph::Graph;
