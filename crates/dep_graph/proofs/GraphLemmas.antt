@@ -1,17 +1,18 @@
 -- What the vectors of a graph say of its lists.
-use Rattle.std.proofs.Common.{◌≡◌, ◌⊎◌, inl, inr, ℕ, zero, suc, ◌+◌, ◌-◌, ◌<◌, ◌≤◌, Bool, true, false, not, ◌&&◌, ◌||◌, cond, List, [], ◌∷◌, ◌++◌, length, take, drop, get_or, map, filter, refl, sym, ◌∙◌, ap, subst, arith, eqb, eqb-true, eq-eqb, ne_eqb, Option, Some, None}
+use Rattle.std.proofs.Common.{◌≡◌, ◌⊎◌, inl, inr, ℕ, zero, suc, ◌+◌, ◌-◌, ◌<◌, ◌≤◌, Bool, true, false, not, ◌&&◌, ◌||◌, cond, List, [], ◌∷◌, ◌++◌, length, take, drop, get_or, map, filter, refl, sym, ◌∙◌, ap, subst, arith, eqb, leb, eqb-true, eq-eqb, ne_eqb, Option, Some, None}
 use Rattle.std.specs.List.{list_any}
-use Rattle.std.proofs.lemmas.Bool.{cases_Bool, cases_eq, or_from, or_left, or_right}
+use Rattle.std.proofs.lemmas.Bool.{and_from, and_parts, cases_Bool, cases_eq, cases_lt, cases_order, le-leb, leb-true, or_from, or_left, or_right, true≢false}
 use Rattle.dep_graph.specs.declared.pairs.Pair.{Pair}
-use Rattle.dep_graph.specs.Pages.{holds, IsLeast}
+use Rattle.dep_graph.specs.Pages.{holds, IsFirst, IsLeast, IsRising}
+use Rattle.dep_graph.specs.Paths.{LivePath}
 use Rattle.dep_graph.specs.Pairs.{has_pair, ends_at, from_page, not_from_page}
 use Rattle.dep_graph.specs.Lists.{Edge, GraphLists, IsGraph, barrier_edge, edges_of, is_live, live_edge}
 use Rattle.dep_graph.specs.Waits.{Waits, waits_for}
 use Rattle.std.proofs.lemmas.List.Filters.{length-filter_both}
 use Rattle.dep_graph.specs.Kept.{IsKept}
-use Rattle.dep_graph.proofs.PathLemmas.{acyclic_fewer}
-use Rattle.dep_graph.proofs.PageLemmas.{as_long, fewer, fewer_by_one, holds_filter}
-use Rattle.dep_graph.proofs.RisingLemmas.{rises_filter}
+use Rattle.dep_graph.proofs.PathLemmas.{acyclic_fewer, way_begins, way_ends}
+use Rattle.dep_graph.proofs.PageLemmas.{as_long, fewer, found, fewer_by_one, holds_filter}
+use Rattle.dep_graph.proofs.RisingLemmas.{any_where, rises_at, rises_filter}
 
 any_append : {X : Type 0} (q : X → Bool) (xs ys : List X) → list_any q (xs ++ ys) ≡ list_any q xs || list_any q ys
 any_append q [] ys = refl
@@ -270,3 +271,33 @@ nodes_are dirty hung nodes live barred k =
 -- room for one hung page more, where a dirty page is not hung
 pub hung_room : (dirty : Waits) (hung nodes : List ℕ) (live barred : List Pair) (page : ℕ) → IsKept dirty hung nodes live barred → holds dirty.pages page ≡ true → holds hung page ≡ false → length hung < length nodes
 hung_room dirty hung nodes live barred page k on off = fewer_by_one hung nodes page k.hung_rising k.nodes_rising (λ a h. k.node a ∙ or_right _ _ h) (k.node page ∙ or_left _ _ on) off
+
+-- no way leads to a page that is not dirty, and none from it
+pub no_way_to : (dirty : Waits) (hung nodes : List ℕ) (live barred : List Pair) (a b : ℕ) → IsKept dirty hung nodes live barred → holds dirty.pages b ≡ false → LivePath (has_pair live) a b → ⊥
+no_way_to dirty hung nodes live barred a b k off way = let q = way_ends way in true≢false (sym (k.live_ends q.0 b q.1).1 ∙ off)
+
+pub no_way_from : (dirty : Waits) (hung nodes : List ℕ) (live barred : List Pair) (a b : ℕ) → IsKept dirty hung nodes live barred → holds dirty.pages a ≡ false → LivePath (has_pair live) a b → ⊥
+no_way_from dirty hung nodes live barred a b k off way = let q = way_begins way in true≢false (sym (k.live_ends a q.0 q.1).0 ∙ off)
+
+-- the first of the ready pages from a number on is the least
+pub least_of_first : (P : ℕ → Type 0) (ready : ℕ → Bool) (pages : List ℕ) (from : ℕ) (r : Option ℕ) → IsRising pages → ((a : ℕ) → holds pages a ≡ ready a && leb from a) → IsFirst P pages r
+    → IsLeast (λ page. (ready page ≡ true) × P page) from r
+least_of_first P ready pages from None up is none = λ a h. elim (cases_lt a from) [
+  | inl lt ↦ lt
+  | inr le ↦ absurd (
+      let w = any_where (λ p. eqb p a) pages 0 (is a ∙ and_from _ _ h.0 (le-leb from a le)) in
+      none w.0 w.1 (subst P (sym (eqb-true _ _ w.2)) h.1))
+]
+least_of_first P ready pages from (Some page) up is (k, (lt, (at, (held, earlier)))) =
+    let both = and_parts (ready page) (leb from page) (sym (is page) ∙ found pages k page lt at) in (
+      (both.0, held),
+      leb-true from page both.1,
+      λ a h le.
+        let w = any_where (λ p. eqb p a) pages 0 (is a ∙ and_from _ _ h.0 (le-leb from a le)) in
+        let same : get_or pages w.0 0 ≡ a = eqb-true _ _ w.2 in
+        elim (cases_order w.0 k) [
+          | inl here ↦ let e : get_or pages w.0 0 ≡ page = ap (λ n. get_or pages n 0) here ∙ at in omega arith
+          | inr (inl before) ↦ absurd (earlier w.0 before (subst P (sym same) h.1))
+          | inr (inr after) ↦ let more = rises_at (λ a b. a < b) pages 0 up k w.0 after w.1 in omega arith
+        ],
+    )

@@ -1,5 +1,5 @@
 -- Marks, and the pages that a search has reached.
-use Rattle.std.proofs.Common.{◌≡◌, ◌⊎◌, inl, inr, ℕ, zero, suc, ◌+◌, ◌-◌, ◌<◌, ◌≤◌, Bool, true, false, not, ◌&&◌, ◌||◌, cond, List, [], ◌∷◌, ◌++◌, length, take, get_or, set, map, refl, sym, ◌∙◌, ap, subst, arith, eqb, eqb-true, eq-eqb, ne_eqb, add-one}
+use Rattle.std.proofs.Common.{◌≡◌, ◌⊎◌, inl, inr, ℕ, zero, suc, ◌+◌, ◌-◌, ◌<◌, ◌≤◌, Bool, true, false, not, ◌&&◌, ◌||◌, cond, List, [], ◌∷◌, ◌++◌, length, take, get_or, replicate, set, map, refl, sym, ◌∙◌, ap, subst, arith, eqb, eqb-true, eq-eqb, ne_eqb, add-one}
 use Rattle.std.specs.List.{list_any}
 use Rattle.std.proofs.lemmas.Bool.{cases_Bool, cases_eq, cases_lt, cases_order, or_cases, or_left, or_right, true≢false}
 use Rattle.std.proofs.lemmas.List.{get_or-set_same, get_or-set_other, get_or_append_left, get_or_push, length_push}
@@ -238,3 +238,23 @@ pub closed_at_end : (live : List Pair) (pages reached : List ℕ) (head : ℕ) �
 closed_at_end live pages reached head all done a b h edge =
     let q = place_of_seen pages reached a h in
     done q.0 b (omega (arith, q.1)) (subst (λ n. has_pair live n b ≡ true) (sym q.2) edge)
+
+none_take : (n : ℕ) (xs : List Bool) → ((k : ℕ) → get_or xs k false ≡ false) → (k : ℕ) → get_or (take n xs) k false ≡ false
+none_take zero xs h k = refl
+none_take (suc n) [] h k = refl
+none_take (suc n) (x ∷ xs) h zero = h zero
+none_take (suc n) (x ∷ xs) h (suc k) = none_take n xs (λ j. h (suc j)) k
+
+none_append : (xs ys : List Bool) → ((k : ℕ) → get_or xs k false ≡ false) → ((k : ℕ) → get_or ys k false ≡ false) → (k : ℕ) → get_or (xs ++ ys) k false ≡ false
+none_append [] ys h g k = g k
+none_append (x ∷ xs) ys h g zero = h zero
+none_append (x ∷ xs) ys h g (suc k) = none_append xs ys (λ j. h (suc j)) g k
+
+none_replicate : (n k : ℕ) → get_or (replicate n false) k false ≡ false
+none_replicate zero k = refl
+none_replicate (suc n) zero = refl
+none_replicate (suc n) (suc k) = none_replicate n k
+
+-- marks to which unmarked ones were added
+pub none_resized : (marks : List Bool) (queue : List ℕ) (n m : ℕ) → IsMarked marks queue → queue ≡ [] → (k : ℕ) → get_or (take n marks ++ replicate m false) k false ≡ false
+none_resized marks queue n m is none = none_append (take n marks) (replicate m false) (none_take n marks (λ k. is.mark k ∙ ap (λ (q : List ℕ). holds q k) none)) (none_replicate m)

@@ -1,17 +1,80 @@
 // Marks and edges.
-ghost use Rattle.std.specs.Prelude.{◌≡◌, ℕ, ◌+◌, ◌-◌, ◌<◌, ◌≤◌, ◌||◌, ◌&&◌, not, eqb, true, false, length, vec_capacity, [], max, OnOk, OnErr, if◌then◌else◌};
+ghost use Rattle.std.specs.Prelude.{◌≡◌, ℕ, ◌+◌, ◌-◌, ◌<◌, ◌≤◌, ◌||◌, ◌&&◌, ◌↔◌, not, eqb, true, false, length, vec_capacity, [], max, IfOk, OnOk, OnErr, if◌then◌else◌};
 ghost use Rattle.dep_graph.specs.Lists.{dirty_in, hung_in, live_in, barred_in, edge_in, is_live, is_node, is_ready, node_count, waiter_count, waits_in, IsGraph};
 ghost use Rattle.dep_graph.specs.Pages.{holds, IsLeast, IsRising};
 ghost use Rattle.dep_graph.specs.Paths.{Closes};
 
-use crate::Kind;
+use crate::{Kind, NoMemory};
 use crate::moves::{bar_each, lower_each};
 use crate::pages;
 use crate::pairs::{self, Pair};
-use crate::room::copy_into;
+use crate::room::{copy_into, room_for};
+use crate::search::{Search, first_reaching, reaches};
 use crate::waiting::Waiting;
 use std::alloc::Global;
 use std::marker::Model;
+
+// So many in all, where a number tells them.
+fn in_all(there: usize, spare: u32) -> Result<u32, NoMemory>
+    ensures { IfOk result (λ all. all ≡ there + spare) }
+{
+    match u32::try_from(there) {
+        Ok(there) => there.checked_add(spare).ok_or(NoMemory),
+        Err(_) => Err(NoMemory),
+    }
+}
+
+// Room for so many pages in all.
+fn room_for_nodes(
+    dirty: &mut Waiting,
+    hung: &mut Vec<u32>,
+    nodes: &mut Vec<u32>,
+    search: &mut Search,
+    all: u32,
+) -> Result<(), NoMemory>
+    requires { search.old.reached ≡ [] }
+    ensures pages { dirty.new.pages ≡ dirty.old.pages }
+    ensures counts { dirty.new.counts ≡ dirty.old.counts }
+    ensures hung { hung.new.items ≡ hung.old.items }
+    ensures nodes { nodes.new.items ≡ nodes.old.items }
+    ensures reached { search.new.reached ≡ [] }
+    ensures ok { OnOk result ((all ≤ dirty.new.room) × (all ≤ vec_capacity hung.new) × (all ≤ vec_capacity nodes.new) × (all ≤ search.new.room)) }
+    ensures room { (dirty.old.room ≤ dirty.new.room) × (vec_capacity hung.old ≤ vec_capacity hung.new) × (vec_capacity nodes.old ≤ vec_capacity nodes.new) × (search.old.room ≤ search.new.room) }
+{
+    match dirty.reserve(all) {
+        Ok(()) => {}
+        Err(_) => return Err(NoMemory),
+    }
+    match room_for(hung, all as usize) {
+        Ok(()) => {}
+        Err(_) => return Err(NoMemory),
+    }
+    match room_for(nodes, all as usize) {
+        Ok(()) => {}
+        Err(_) => return Err(NoMemory),
+    }
+    match search.reserve(all) {
+        Ok(()) => Ok(()),
+        Err(_) => Err(NoMemory),
+    }
+}
+
+// Room for so many edges in all.
+fn room_for_edges(live: &mut Vec<Pair>, barred: &mut Vec<Pair>, all: u32) -> Result<(), NoMemory>
+    ensures live { live.new.items ≡ live.old.items }
+    ensures barred { barred.new.items ≡ barred.old.items }
+    ensures ok { OnOk result ((all ≤ vec_capacity live.new) × (all ≤ vec_capacity barred.new)) }
+    ensures room { (vec_capacity live.old ≤ vec_capacity live.new) × (vec_capacity barred.old ≤ vec_capacity barred.new) }
+{
+    match room_for(live, all as usize) {
+        Ok(()) => {}
+        Err(_) => return Err(NoMemory),
+    }
+    match room_for(barred, all as usize) {
+        Ok(()) => Ok(()),
+        Err(_) => Err(NoMemory),
+    }
+}
 
 // A page that lost its dirty mark stays a node where it is hung.
 fn clean(nodes: &mut Vec<u32>, hung: &[u32], page: u32)
@@ -38,12 +101,11 @@ pub struct Graph {
     barred: Vec<Pair>,
     spare_nodes: u32,
     spare_edges: u32,
-    marks: Vec<bool>,
-    queue: Vec<u32>,
+    search: Search,
 }
 
 impl Model for Graph {
-    ghost use Rattle.std.specs.Prelude.{◌+◌, length, vec_capacity};
+    ghost use Rattle.std.specs.Prelude.{◌≡◌, ◌+◌, [], length, vec_capacity};
     ghost use Rattle.dep_graph.specs.Lists.{GraphLists, edges_of};
     ghost use Rattle.dep_graph.specs.Kept.{HasRoom, IsKept};
 
@@ -51,7 +113,7 @@ impl Model for Graph {
 
     ghost view = { λ g. record { dirty = g.dirty.pages; hung = g.hung.items; edges = edges_of g.live.items g.barred.items; spare_nodes = g.spare_nodes; spare_edges = g.spare_edges } };
 
-    ghost invariant = { λ g. IsKept g.dirty g.hung.items g.nodes.items g.live.items g.barred.items × HasRoom (length g.nodes.items + g.spare_nodes) (length g.live.items + length g.barred.items + g.spare_edges) g.dirty.room (vec_capacity g.hung) (vec_capacity g.nodes) (vec_capacity g.live) (vec_capacity g.barred) (length g.marks.items) (length g.queue.items) };
+    ghost invariant = { λ g. IsKept g.dirty g.hung.items g.nodes.items g.live.items g.barred.items × HasRoom (length g.nodes.items + g.spare_nodes) (length g.live.items + length g.barred.items + g.spare_edges) g.dirty.room (vec_capacity g.hung) (vec_capacity g.nodes) (vec_capacity g.live) (vec_capacity g.barred) g.search.room × (g.search.reached ≡ []) };
 }
 
 impl Graph {
@@ -68,9 +130,70 @@ impl Graph {
             barred: Vec::new(alloc),
             spare_nodes: 0,
             spare_edges: 0,
-            marks: Vec::new(alloc),
-            queue: Vec::new(alloc),
+            search: Search::new(alloc),
         }
+    }
+
+    /// Makes room for at least so many further nodes and edges.
+    pub fn reserve(&mut self, nodes: u32, edges: u32) -> Result<(), NoMemory>
+        ensures ok { OnOk result (self.new ≡ record self.old { spare_nodes = max self.old.spare_nodes nodes; spare_edges = max self.old.spare_edges edges }) }
+        ensures err { OnErr result (self.new ≡ self.old) }
+    {
+        let spare_nodes = self.spare_nodes.max(nodes);
+        let spare_edges = self.spare_edges.max(edges);
+        let all_nodes = in_all(self.nodes.len(), spare_nodes)?;
+        let all_edges = in_all(self.live.len() + self.barred.len(), spare_edges)?;
+        room_for_nodes(
+            &mut self.dirty,
+            &mut self.hung,
+            &mut self.nodes,
+            &mut self.search,
+            all_nodes,
+        )?;
+        room_for_edges(&mut self.live, &mut self.barred, all_edges)?;
+        self.spare_nodes = spare_nodes;
+        self.spare_edges = spare_edges;
+        Ok(())
+    }
+
+    /// Whether a Live edge from one page to the other would close a cycle.
+    pub fn closes(&mut self, before: u32, after: u32) -> bool
+        ensures closes { (result ≡ true) ↔ Closes (live_in self.old) before after }
+        ensures same { self.new ≡ self.old }
+    {
+        if before == after {
+            return true;
+        }
+        if !self.dirty.contains(before) {
+            return false;
+        }
+        if !self.dirty.contains(after) {
+            return false;
+        }
+        reaches(
+            &self.live,
+            self.dirty.pages(),
+            &mut self.search,
+            after,
+            before,
+        )
+    }
+
+    /// The least ready page at or above a number that is the target, or from which a way of Live edges leads to it.
+    pub fn first_ready_before(&mut self, target: u32, from: u32) -> Option<u32>
+        ensures least { IsLeast (λ page. (is_ready self.old page ≡ true) × Closes (live_in self.old) target page) from result }
+        ensures same { self.new ≡ self.old }
+    {
+        if !self.dirty.contains(target) {
+            return None;
+        }
+        first_reaching(
+            self.dirty.ready_from(from),
+            &self.live,
+            self.dirty.pages(),
+            &mut self.search,
+            target,
+        )
     }
 
     /// Whether the page is dirty: edited since its last write.

@@ -1,5 +1,20 @@
 // Vectors with room.
-ghost use Rattle.std.specs.Prelude.{◌≡◌, ◌+◌, ◌<◌, ◌≤◌, ◌++◌, length, take, drop, vec_len, vec_capacity, insert};
+ghost use Rattle.std.specs.Prelude.{◌≡◌, ◌+◌, ◌<◌, ◌≤◌, ◌++◌, length, take, drop, vec_len, vec_capacity, insert, OnOk};
+
+use std::alloc::AllocError;
+
+// Makes room for so many items in all.
+pub fn room_for<T>(items: &mut Vec<T>, all: usize) -> Result<(), AllocError>
+    ensures items { items.new.items ≡ items.old.items }
+    ensures ok { OnOk result (all ≤ vec_capacity items.new) }
+    ensures room { vec_capacity items.old ≤ vec_capacity items.new }
+{
+    if all <= items.len() {
+        return Ok(());
+    }
+    items.try_reserve(all - items.len())?;
+    Ok(())
+}
 
 // Puts an item in where there is room, so that no memory is taken.
 pub fn insert_at<T: Copy>(items: &mut Vec<T>, at: usize, item: T)

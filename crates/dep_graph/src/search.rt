@@ -1,13 +1,14 @@
 // A search along Live edges by marks and a queue. It takes no memory.
-ghost use Rattle.std.specs.Prelude.{◌≡◌, ◌⊎◌, ℕ, ◌+◌, ◌<◌, ◌≤◌, ◌||◌, Bool, true, false, eqb, slice_index_or, [], ◌∷◌, ◌++◌, length, slice_index, max, OnOk, if◌then◌else◌};
+ghost use Rattle.std.specs.Prelude.{◌≡◌, ◌⊎◌, ◌↔◌, ℕ, ◌+◌, ◌<◌, ◌≤◌, ◌||◌, Bool, true, false, eqb, slice_index_or, [], ◌∷◌, ◌++◌, length, slice_index, OnOk, if◌then◌else◌};
 ghost use Rattle.std.specs.List.{list_any};
-ghost use Rattle.dep_graph.specs.Pages.{holds, IsRising};
+ghost use Rattle.dep_graph.specs.Pages.{holds, IsFirst, IsRising};
 ghost use Rattle.dep_graph.specs.Pairs.{AreRising, has_pair};
 ghost use Rattle.dep_graph.specs.Paths.{Closes};
 ghost use Rattle.dep_graph.specs.Trails.{seen, AreWithin, IsClosed};
 
 use crate::pages;
 use crate::pairs::{self, Pair};
+use crate::room::room_for;
 use std::alloc::{AllocError, Global};
 use std::marker::Model;
 
@@ -37,6 +38,22 @@ impl Search {
             marks: Vec::new(alloc),
             queue: Vec::new(alloc),
         }
+    }
+
+    // Makes room for so many places.
+    pub fn reserve(&mut self, places: u32) -> Result<(), AllocError>
+        requires { self.old.reached ≡ [] }
+        ensures reached { self.new.reached ≡ [] }
+        ensures ok { OnOk result (places ≤ self.new.room) }
+        ensures room { self.old.room ≤ self.new.room }
+    {
+        let places = places as usize;
+        if places <= self.marks.len() {
+            return Ok(());
+        }
+        room_for(&mut self.queue, places)?;
+        self.marks.resize(places, false)?;
+        Ok(())
     }
 
     // How many places were reached.
@@ -135,4 +152,63 @@ pub fn explore(live: &[Pair], pages: &[u32], search: &mut Search, from: u32)
         spread(pairs::out_of(live, page), pages, search);
         head += 1;
     }
+}
+
+// Whether a way leads from one page to another, or they are one.
+pub fn reaches(live: &[Pair], pages: &[u32], search: &mut Search, from: u32, to: u32) -> bool
+    requires live_rising { AreRising live.now }
+    requires rising { IsRising pages.now }
+    requires ends { (a b : ℕ) → has_pair live.now a b ≡ true → holds pages.now b ≡ true }
+    requires from { holds pages.now from ≡ true }
+    requires to { holds pages.now to ≡ true }
+    requires none { search.old.reached ≡ [] }
+    requires room { length pages.now ≤ search.old.room }
+    ensures way { (result ≡ true) ↔ Closes (has_pair live.now) to from }
+    ensures none { search.new.reached ≡ [] }
+    ensures room { search.new.room ≡ search.old.room }
+{
+    explore(live, pages, search, from);
+    let found = search.is_reached(pages::position_of(pages, to));
+    search.clear();
+    found
+}
+
+// The first of some pages from which a way leads to another, or which is that one.
+pub fn first_reaching(candidates: &[u32], live: &[Pair], pages: &[u32], search: &mut Search, to: u32) -> Option<u32>
+    requires live_rising { AreRising live.now }
+    requires rising { IsRising pages.now }
+    requires ends { (a b : ℕ) → has_pair live.now a b ≡ true → holds pages.now b ≡ true }
+    requires candidates { (k : ℕ) → k < length candidates.now → holds pages.now (slice_index candidates.now k) ≡ true }
+    requires to { holds pages.now to ≡ true }
+    requires none { search.old.reached ≡ [] }
+    requires room { length pages.now ≤ search.old.room }
+    ensures first { IsFirst (λ page. Closes (has_pair live.now) to page) candidates.now result }
+    ensures none { search.new.reached ≡ [] }
+    ensures room { search.new.room ≡ search.old.room }
+{
+    let found = try_each(candidates, live, pages, search, to);
+    search.clear();
+    found
+}
+
+// Goes on from one page to the next, over what was reached from those before.
+fn try_each(candidates: &[u32], live: &[Pair], pages: &[u32], search: &mut Search, to: u32) -> Option<u32>
+    requires live_rising { AreRising live.now }
+    requires rising { IsRising pages.now }
+    requires ends { (a b : ℕ) → has_pair live.now a b ≡ true → holds pages.now b ≡ true }
+    requires candidates { (k : ℕ) → k < length candidates.now → holds pages.now (slice_index candidates.now k) ≡ true }
+    requires to { holds pages.now to ≡ true }
+    requires none { search.old.reached ≡ [] }
+    requires room { length pages.now ≤ search.old.room }
+    ensures first { IsFirst (λ page. Closes (has_pair live.now) to page) candidates.now result }
+    ensures room { search.new.room ≡ search.old.room }
+{
+    let place = pages::position_of(pages, to);
+    for page in candidates {
+        explore(live, pages, search, *page);
+        if search.is_reached(place) {
+            return Some(*page);
+        }
+    }
+    None
 }

@@ -1,10 +1,10 @@
 // The dirty pages, each with the number of edges that lead to it, and those to which none leads.
-ghost use Rattle.std.specs.Prelude.{◌≡◌, ℕ, ◌+◌, ◌-◌, ◌<◌, ◌≤◌, ◌^◌, Bool, false, true, ◌||◌, ◌&&◌, not, eqb, length, [], max, OnOk, if◌then◌else◌};
+ghost use Rattle.std.specs.Prelude.{◌≡◌, ℕ, ◌+◌, ◌-◌, ◌<◌, ◌≤◌, ◌^◌, Bool, false, true, ◌||◌, ◌&&◌, not, eqb, nat_le, length, [], OnOk, if◌then◌else◌};
 ghost use Rattle.dep_graph.specs.Pages.{holds, IsLeast, IsRising};
 ghost use Rattle.dep_graph.specs.Waits.{waits_for};
 
 use crate::pages;
-use crate::room::insert_at;
+use crate::room::{insert_at, room_for};
 use std::alloc::{AllocError, Global};
 use std::marker::Model;
 
@@ -38,17 +38,16 @@ impl Waiting {
         }
     }
 
-    // Makes room for so many more pages.
-    pub fn reserve(&mut self, more: u32) -> Result<(), AllocError>
+    // Makes room for so many pages in all.
+    pub fn reserve(&mut self, all: u32) -> Result<(), AllocError>
         ensures pages { self.new.pages ≡ self.old.pages }
         ensures counts { self.new.counts ≡ self.old.counts }
-        ensures ok { OnOk result (length self.old.pages + more ≤ self.new.room) }
+        ensures ok { OnOk result (all ≤ self.new.room) }
         ensures room { self.old.room ≤ self.new.room }
     {
-        let pages = self.pages.len() + more as usize;
-        self.ready.try_reserve(pages - self.ready.len())?;
-        self.pages.try_reserve(more as usize)?;
-        self.counts.try_reserve(more as usize)?;
+        room_for(&mut self.pages, all as usize)?;
+        room_for(&mut self.counts, all as usize)?;
+        room_for(&mut self.ready, all as usize)?;
         Ok(())
     }
 
@@ -76,6 +75,14 @@ impl Waiting {
         ensures { IsLeast (λ page. (holds self.now.pages page && eqb (waits_for self.now page) 0) ≡ true) from result }
     {
         pages::first_from(&self.ready, from)
+    }
+
+    // The pages at or above a number to which no edge leads.
+    pub fn ready_from(&self, from: u32) -> &[u32]
+        ensures pages { (a : ℕ) → holds result.now a ≡ ((holds self.now.pages a && eqb (waits_for self.now a) 0) && nat_le from a) }
+        ensures rising { IsRising result.now }
+    {
+        pages::pages_from(&self.ready, from)
     }
 
     // Takes in a page to which no edge leads.

@@ -50,11 +50,11 @@ invariant_of-self c =
         nodes_fit = fits.nodes_fit;
         live = omega (arith, fits.live);
         barred = omega (arith, fits.barred);
-        marks_fit = fits.marks_fit;
-        queue_fit = fits.queue_fit;
+        search_fits = fits.search_fits;
         few_nodes = fits.few_nodes;
         few_edges = omega (arith, fits.few_edges);
       },
+      c.self.invariant.2,
     )
 
 old : (c : goal.After-self-1) (a b : ℕ) → barred_in c.args.self.now a b ≡ has_pair c.self.inside.barred.items a b

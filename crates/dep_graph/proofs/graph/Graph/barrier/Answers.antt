@@ -35,11 +35,11 @@ invariant_of-self c =
         nodes_fit = omega (arith, c.copy_into.ensures.room, fits.nodes_fit);
         live = omega (arith, fits.live);
         barred = omega (arith, c.clear.ensures.capacity, fits.barred);
-        marks_fit = omega (arith, fits.marks_fit);
-        queue_fit = omega (arith, fits.queue_fit);
+        search_fits = omega (arith, fits.search_fits);
         few_nodes = omega (arith, fits.few_nodes);
         few_edges = omega (arith, fits.few_edges);
       },
+      c.self.invariant.2,
     )
 
 pub returns-clause-live : goal.returns-clause-live

@@ -63,11 +63,11 @@ invariant_of-self c =
         nodes_fit = omega (arith, c.clean.ensures.len, c.clean.ensures.room, fits.nodes_fit);
         live = omega (arith, c.remove_out_of.ensures.room, fits.live);
         barred = omega (arith, fits.barred);
-        marks_fit = omega (arith, c.clean.ensures.len, fits.marks_fit);
-        queue_fit = omega (arith, c.clean.ensures.len, fits.queue_fit);
+        search_fits = omega (arith, c.clean.ensures.len, fits.search_fits);
         few_nodes = omega (arith, c.clean.ensures.len, fits.few_nodes);
         few_edges = omega (arith, fits.few_edges);
       },
+      c.self.invariant.2,
     )
 
 pub returns-clause-live : goal.returns-clause-live

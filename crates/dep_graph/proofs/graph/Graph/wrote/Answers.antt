@@ -67,11 +67,11 @@ invariant_of-self c =
         nodes_fit = fits.nodes_fit;
         live = omega (arith, c.remove_out_of.ensures.room, fits.live);
         barred = omega (arith, c.bar_each.ensures.room, fits.barred);
-        marks_fit = fits.marks_fit;
-        queue_fit = fits.queue_fit;
+        search_fits = fits.search_fits;
         few_nodes = fits.few_nodes;
         few_edges = omega (arith, fits.few_edges);
       },
+      c.self.invariant.2,
     )
 
 pub returns-clause-live : goal.returns-clause-live
