@@ -7,3 +7,4 @@ pub mod PathLemmas
 pub mod GraphLemmas
 pub mod KeptLemmas
 pub mod SearchLemmas
+pub mod WaveLemmas

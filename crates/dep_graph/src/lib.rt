@@ -2,6 +2,7 @@
 #![tactic(auto)]
 
 mod graph;
+mod laws;
 mod moves;
 mod pages;
 mod pairs;
@@ -10,6 +11,7 @@ mod search;
 mod waiting;
 
 pub use graph::Graph;
+pub use laws::{barriers_are_fewest, edges_into_one_page};
 
 /// No memory was found for what a call asked.
 #[derive(Clone, Copy, Debug)]
