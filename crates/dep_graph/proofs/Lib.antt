@@ -8,3 +8,4 @@ pub mod GraphLemmas
 pub mod KeptLemmas
 pub mod SearchLemmas
 pub mod WaveLemmas
+pub mod LevelLemmas

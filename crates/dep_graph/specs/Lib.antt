@@ -8,3 +8,4 @@ pub mod Marks
 pub mod Schedules
 pub mod Trails
 pub mod Kept
+pub mod Heights

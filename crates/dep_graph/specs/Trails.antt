@@ -31,3 +31,7 @@ AreWithin reached n = (k : ℕ) → k < length reached → slice_index reached k
 -- each edge from a page that was reached leads to one that was
 abbrev pub IsClosed : List Pair → List ℕ → List ℕ → Type 0
 IsClosed live pages reached = (a b : ℕ) → seen pages reached a ≡ true → has_pair live a b ≡ true → seen pages reached b ≡ true
+
+-- no place was reached twice
+abbrev pub AreApart : List ℕ → Type 0
+AreApart reached = (i j : ℕ) → i < j → j < length reached → slice_index reached i ≡ slice_index reached j → ⊥

@@ -3,6 +3,7 @@
 
 mod graph;
 mod laws;
+mod levels;
 mod moves;
 mod pages;
 mod pairs;
