@@ -8,6 +8,8 @@ use Rattle.dep_graph.specs.Pages.{holds, IsAt, IsRising}
 use Rattle.dep_graph.specs.Pairs.{ends_at, from_page, has_pair}
 use Rattle.dep_graph.specs.Paths.{LivePath, leg, via, IsAcyclic}
 use Rattle.dep_graph.specs.Trails.{seen, AreApart, AreWithin}
+use Rattle.dep_graph.specs.Heights.{AreClimbed}
+use Rattle.dep_graph.specs.Marks.{HasLevels, IsGreatestLevel, IsNode, Marks}
 use Rattle.dep_graph.specs.Waits.{count_at}
 use Rattle.dep_graph.proofs.GraphLemmas.{has_ends, has_from}
 use Rattle.dep_graph.proofs.MoveLemmas.{ends_next}
@@ -15,7 +17,7 @@ use Rattle.dep_graph.proofs.PageLemmas.{flip, found, holds_filter}
 use Rattle.dep_graph.proofs.PathLemmas.{way_join}
 use Rattle.dep_graph.proofs.RisingLemmas.{any_at, any_where, rises_at}
 use Rattle.dep_graph.proofs.SearchLemmas.{any_more, in_queue, place_of_seen, seen_visit, visit_within, visit_front, visit_grows}
-use Rattle.dep_graph.proofs.WaitLemmas.{read_count, set_count}
+use Rattle.dep_graph.proofs.WaitLemmas.{count_place, read_count, set_count}
 
 -- a number that is read and changed
 module _ (pages nums : List ℕ) (k page n : ℕ) (up : IsRising pages) (each : length nums ≡ length pages) (at : IsAt pages page k) (read : n ≡ get_or nums k n) where
@@ -353,3 +355,159 @@ ends_undone_le done (r ∷ rs) x p off = let rest = ends_undone_le done rs x p o
     | inr no' ↦ rw (no', ne_eqb r.before x ne) (omega arith)
   ]
 ]
+
+-- a pair that stands in the list
+pub pair_at : (ps : List Pair) (k : ℕ) (d : Pair) → k < length ps → has_pair ps (get_or ps k d).before (get_or ps k d).after ≡ true
+pair_at ps k d lt = any_at (λ p. eqb p.before (get_or ps k d).before && eqb p.after (get_or ps k d).after) ps k d lt (and_from _ _ (eq-eqb (get_or ps k d).before (get_or ps k d).before refl) (eq-eqb (get_or ps k d).after (get_or ps k d).after refl))
+
+any_before : (ps : List Pair) (b : ℕ) → list_any (λ (e : Pair). eqb e.after b) ps ≡ true → (a : ℕ) × (has_pair ps a b ≡ true)
+any_before [] b h = absurd (cc)
+any_before (p ∷ ps) b h = elim (or_cases (eqb p.after b) (list_any (λ (e : Pair). eqb e.after b) ps) h) [
+  | inl here ↦ (p.before, rw (eq-eqb p.before p.before refl, here))
+  | inr later ↦ let q = any_before ps b later in (q.0, or_right (eqb p.before q.0 && eqb p.after b) (has_pair ps q.0 b) q.1)
+]
+
+any_after : (ps : List Pair) (a b : ℕ) → has_pair ps a b ≡ true → list_any (λ (e : Pair). eqb e.after b) ps ≡ true
+any_after [] a b h = h
+any_after (p ∷ ps) a b h = elim (or_cases (eqb p.before a && eqb p.after b) (has_pair ps a b) h) [
+  | inl here ↦ or_left _ _ (and_parts (eqb p.before a) (eqb p.after b) here).1
+  | inr later ↦ or_right (eqb p.after b) (list_any (λ (e : Pair). eqb e.after b) ps) (any_after ps a b later)
+]
+
+-- equal numbers beside all pages
+pub count_filled : (pages nums : List ℕ) (v p : ℕ) → length nums ≡ length pages → ((k : ℕ) → k < length pages → get_or nums k 0 ≡ v) → count_at pages nums p ≡ cond (holds pages p) v 0
+unfolding count_at
+count_filled [] nums v p each same = refl
+count_filled (q ∷ qs) [] v p each same = absurd (omega arith)
+count_filled (q ∷ qs) (n ∷ ns) v p each same = elim (cases_Bool (eqb q p)) [
+  | inl is ↦ rw is (same zero (omega arith))
+  | inr off ↦ rw off (count_filled qs ns v p (omega arith) (λ k lt. same (suc k) (omega arith)))
+]
+
+-- the levels that the last numbers give
+module _ (live barred : List Pair) (pages first nums : List ℕ) (greatest : ℕ) (up : IsRising pages) (each : length nums ≡ length pages)
+    (first_is : (p : ℕ) → count_at pages first p ≡ cond (list_any (λ (e : Pair). eqb e.after p) barred) 2 (cond (holds pages p) 1 0)) where
+  pub climbed : ((a b : ℕ) → has_pair live a b ≡ true → count_at pages nums a < count_at pages nums b)
+      → ((p : ℕ) → (count_at pages nums p ≡ count_at pages first p) ⊎ ((a : ℕ) × ((has_pair live a p ≡ true) × (count_at pages nums p ≡ count_at pages nums a + 1))))
+      → ((p : ℕ) → count_at pages first p ≤ count_at pages nums p) → ((k : ℕ) → k < length nums → get_or nums k 0 ≤ greatest)
+      → ((greatest ≡ 0) × (length nums ≡ 0)) ⊎ ((k : ℕ) × ((k < length nums) × (get_or nums k 0 ≡ greatest))) → AreClimbed pages (has_pair live) (has_pair barred) greatest
+  climbed above is grows most reached = record {
+    level = count_at pages nums;
+    above_live = above;
+    above_barred = λ a b h. let two : count_at pages first b ≡ 2 = first_is b ∙ rw (any_after barred a b h) in let g = grows b in omega arith;
+    is = λ p on. elim (is p) [
+      | inr q ↦ inr (inl q)
+      | inl same ↦ elim (cases_Bool (list_any (λ (e : Pair). eqb e.after p) barred)) [
+        | inl any ↦ let q = any_before barred p any in inr (inr (q.0, (q.1, same ∙ first_is p ∙ rw any)))
+        | inr none ↦ inl (same ∙ first_is p ∙ rw (none, on))
+      ]
+    ];
+    most = λ p on.
+        let w = any_where (λ q. eqb q p) pages 0 on in
+        let lt : w.0 < length nums = omega (arith, w.1) in
+        let le = most w.0 lt in
+        let place = count_place pages nums w.0 up each w.1 in
+        let same = ap (λ q. count_at pages nums q) (eqb-true _ _ w.2) in
+        omega arith;
+    reached = elim reached [
+      | inl none ↦ inl (none.0, λ p on. let w = any_where (λ q. eqb q p) pages 0 on in let z = none.1 in omega (arith, w.1))
+      | inr top ↦ let lt : top.0 < length pages = omega (arith, top.1.0) in
+          inr (get_or pages top.0 0, (found pages top.0 (get_or pages top.0 0) lt refl, count_place pages nums top.0 up each lt ∙ top.1.1))
+    ];
+  }
+
+-- the levels of all nodes: a page that is hung alone has level 1
+module _ (m : Marks) (pages : List ℕ) (live barred : ℕ → ℕ → Bool) (greatest : ℕ) (dirty : (p : ℕ) → m.dirty p ≡ holds pages p) (live_is : (a b : ℕ) → m.live a b ≡ live a b)
+    (barred_is : (a b : ℕ) → m.barred a b ≡ barred a b) (live_ends : (a b : ℕ) → live a b ≡ true → (holds pages a ≡ true) × (holds pages b ≡ true)) (barred_ends : (a b : ℕ) → barred a b ≡ true → holds pages b ≡ true)
+    (c : AreClimbed pages live barred greatest) where
+  level_in : ℕ → ℕ
+  level_in p = cond (holds pages p) (c.level p) 1
+
+  held_level : (p : ℕ) → holds pages p ≡ true → level_in p ≡ c.level p
+  unfolding level_in
+  held_level p on = rw on
+
+  other_level : (p : ℕ) → holds pages p ≡ false → level_in p ≡ 1
+  unfolding level_in
+  other_level p off = rw off
+
+  levels_in : HasLevels m level_in
+  levels_in = record {
+    is = λ p node. elim (cases_Bool (holds pages p)) [
+      | inr off ↦ inl (other_level p off)
+      | inl on ↦ elim (c.is p on) [
+        | inl one ↦ inl (held_level p on ∙ one)
+        | inr (inl q) ↦
+            let same_a = held_level q.0 (live_ends q.0 p q.1.0).0 in
+            let same = held_level p on in
+            let is = q.1.1 in
+            inr (dirty p ∙ on, inl (q.0, (live_is q.0 p ∙ q.1.0, omega arith)))
+        | inr (inr q) ↦ inr (dirty p ∙ on, inr (q.0, (barred_is q.0 p ∙ q.1.0, held_level p on ∙ q.1.1)))
+      ]
+    ];
+    above_live = λ a b h.
+        let edge : live a b ≡ true = sym (live_is a b) ∙ h in
+        let held = live_ends a b edge in
+        let same_a = held_level a held.0 in
+        let same_b = held_level b held.1 in
+        let lt = c.above_live a b edge in
+        omega arith;
+    above_barred = λ a b h.
+        let edge : barred a b ≡ true = sym (barred_is a b) ∙ h in
+        let same = held_level b (barred_ends a b edge) in
+        let lt = c.above_barred a b edge in
+        omega arith;
+  }
+
+  pub greatest_alone : ((p : ℕ) → m.hung p ≡ false) → IsGreatestLevel m greatest
+  greatest_alone none = record {
+    level = level_in;
+    levels = levels_in;
+    most = λ p node.
+        let on : holds pages p ≡ true = elim node [ inl d ↦ sym (dirty p) ∙ d | inr h ↦ absurd (true≢false (sym h ∙ none p)) ] in
+        let same = held_level p on in
+        let le = c.most p on in
+        omega arith;
+    reached = elim c.reached [
+      | inl z ↦ inl (z.0, λ p node. elim node [ inl d ↦ z.1 p (sym (dirty p) ∙ d) | inr h ↦ true≢false (sym h ∙ none p) ])
+      | inr top ↦ inr (top.0, (inl (dirty top.0 ∙ top.1.0), held_level top.0 top.1.0 ∙ top.1.1))
+    ];
+  }
+
+  at_least : (p : ℕ) → holds pages p ≡ true → 1 ≤ c.level p
+  at_least p on = elim (c.is p on) [
+    | inl one ↦ omega arith
+    | inr (inl q) ↦ let is = q.1.1 in omega arith
+    | inr (inr q) ↦ let is = q.1.1 in omega arith
+  ]
+
+  pub greatest_with_hung : (h : ℕ) → m.hung h ≡ true → IsGreatestLevel m (max greatest 1)
+  greatest_with_hung h hung = record {
+    level = level_in;
+    levels = levels_in;
+    most = λ p node. elim (cases_Bool (holds pages p)) [
+      | inl on ↦ let same = held_level p on in let le = c.most p on in omega arith
+      | inr off ↦ let same = other_level p off in omega arith
+    ];
+    reached = elim c.reached [
+      | inl z ↦
+          let zero' = z.0 in
+          let off : holds pages h ≡ false = elim (cases_Bool (holds pages h)) [ inl on ↦ absurd (z.1 h on) | inr off ↦ off ] in
+          let same = other_level h off in
+          inr (h, (inr hung, omega arith))
+      | inr top ↦
+          let same = held_level top.0 top.1.0 in
+          let is = top.1.1 in
+          let one = at_least top.0 top.1.0 in
+          inr (top.0, (inl (dirty top.0 ∙ top.1.0), omega arith))
+    ];
+  }
+
+-- a list that is not empty holds a page
+pub holds_some : (xs : List ℕ) → (length xs ≡ 0 → ⊥) → (h : ℕ) × (holds xs h ≡ true)
+holds_some [] some = absurd (some refl)
+holds_some (x ∷ xs) some = (x, or_left (eqb x x) (holds xs x) (eq-eqb x x refl))
+
+pub holds_none : (xs : List ℕ) → length xs ≡ 0 → (p : ℕ) → holds xs p ≡ false
+holds_none [] none p = refl
+holds_none (x ∷ xs) none p = absurd (omega arith)

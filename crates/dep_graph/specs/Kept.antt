@@ -19,12 +19,15 @@ pub record IsKept (dirty : Waits) (hung nodes : List ℕ) (live barred : List Pa
   pub acyclic : IsAcyclic (has_pair live)
 
 -- room for so many nodes in each vector of pages, and for so many edges in each of pairs
-pub record HasRoom (nodes edges dirty_room hung_room nodes_room live_room barred_room search_room : ℕ) : Type 0 where
+pub record HasRoom (nodes edges dirty_room hung_room nodes_room live_room barred_room search_room left_room level_room : ℕ) : Type 0 where
   pub dirty : nodes ≤ dirty_room
   pub hung : nodes ≤ hung_room
   pub nodes_fit : nodes ≤ nodes_room
   pub live : edges ≤ live_room
   pub barred : edges ≤ barred_room
   pub search_fits : nodes ≤ search_room
-  pub few_nodes : nodes < 2 ^ 32
+  pub left_fits : nodes ≤ left_room
+  pub level_fits : nodes ≤ level_room
+  pub few_nodes : nodes < 2 ^ 31
+  pub few_places : search_room < 2 ^ 31
   pub few_edges : edges < 2 ^ 32

@@ -1,10 +1,12 @@
 // Marks and edges.
-ghost use Rattle.std.specs.Prelude.{◌≡◌, ℕ, ◌+◌, ◌-◌, ◌<◌, ◌≤◌, ◌||◌, ◌&&◌, ◌↔◌, not, eqb, true, false, length, vec_capacity, [], max, IfOk, OnOk, OnErr, if◌then◌else◌};
+ghost use Rattle.std.specs.Prelude.{◌≡◌, ℕ, ◌+◌, ◌-◌, ◌<◌, ◌≤◌, ◌^◌, ◌||◌, ◌&&◌, ◌↔◌, not, eqb, true, false, length, vec_capacity, [], max, IfOk, OnOk, OnErr, if◌then◌else◌};
 ghost use Rattle.dep_graph.specs.Lists.{dirty_in, hung_in, live_in, barred_in, edge_in, is_live, is_node, is_ready, node_count, waiter_count, waits_in, IsGraph};
 ghost use Rattle.dep_graph.specs.Pages.{holds, IsLeast, IsRising};
+ghost use Rattle.dep_graph.specs.Marks.{IsGreatestLevel, marks_of};
 ghost use Rattle.dep_graph.specs.Paths.{Closes};
 
 use crate::{Kind, NoMemory};
+use crate::levels::greatest_level;
 use crate::moves::{bar_each, lower_each};
 use crate::pages;
 use crate::pairs::{self, Pair};
@@ -13,6 +15,9 @@ use crate::search::{Search, first_reaching, reaches};
 use crate::waiting::Waiting;
 use std::alloc::Global;
 use std::marker::Model;
+
+/// There are fewer nodes than this at any time.
+pub const NODE_LIMIT: u32 = 1 << 31;
 
 // So many in all, where a number tells them.
 fn in_all(there: usize, spare: u32) -> Result<u32, NoMemory>
@@ -32,12 +37,15 @@ fn room_for_nodes(
     search: &mut Search,
     all: u32,
 ) -> Result<(), NoMemory>
-    requires { search.old.reached ≡ [] }
+    requires none { search.old.reached ≡ [] }
+    requires few { all < 2 ^ 31 }
+    requires few_places { search.old.room < 2 ^ 31 }
     ensures pages { dirty.new.pages ≡ dirty.old.pages }
     ensures counts { dirty.new.counts ≡ dirty.old.counts }
     ensures hung { hung.new.items ≡ hung.old.items }
     ensures nodes { nodes.new.items ≡ nodes.old.items }
     ensures reached { search.new.reached ≡ [] }
+    ensures few { search.new.room < 2 ^ 31 }
     ensures ok { OnOk result ((all ≤ dirty.new.room) × (all ≤ vec_capacity hung.new) × (all ≤ vec_capacity nodes.new) × (all ≤ search.new.room)) }
     ensures room { (dirty.old.room ≤ dirty.new.room) × (vec_capacity hung.old ≤ vec_capacity hung.new) × (vec_capacity nodes.old ≤ vec_capacity nodes.new) × (search.old.room ≤ search.new.room) }
 {
@@ -54,6 +62,21 @@ fn room_for_nodes(
         Err(_) => return Err(NoMemory),
     }
     match search.reserve(all) {
+        Ok(()) => Ok(()),
+        Err(_) => Err(NoMemory),
+    }
+}
+
+// Room to find so many levels.
+fn room_for_levels(left: &mut Vec<u32>, level: &mut Vec<u32>, all: u32) -> Result<(), NoMemory>
+    ensures ok { OnOk result ((all ≤ vec_capacity left.new) × (all ≤ vec_capacity level.new)) }
+    ensures room { (vec_capacity left.old ≤ vec_capacity left.new) × (vec_capacity level.old ≤ vec_capacity level.new) }
+{
+    match room_for(left, all as usize) {
+        Ok(()) => {}
+        Err(_) => return Err(NoMemory),
+    }
+    match room_for(level, all as usize) {
         Ok(()) => Ok(()),
         Err(_) => Err(NoMemory),
     }
@@ -102,6 +125,8 @@ pub struct Graph {
     spare_nodes: u32,
     spare_edges: u32,
     search: Search,
+    left: Vec<u32>,
+    level: Vec<u32>,
 }
 
 impl Model for Graph {
@@ -113,7 +138,7 @@ impl Model for Graph {
 
     ghost view = { λ g. record { dirty = g.dirty.pages; hung = g.hung.items; edges = edges_of g.live.items g.barred.items; spare_nodes = g.spare_nodes; spare_edges = g.spare_edges } };
 
-    ghost invariant = { λ g. IsKept g.dirty g.hung.items g.nodes.items g.live.items g.barred.items × HasRoom (length g.nodes.items + g.spare_nodes) (length g.live.items + length g.barred.items + g.spare_edges) g.dirty.room (vec_capacity g.hung) (vec_capacity g.nodes) (vec_capacity g.live) (vec_capacity g.barred) g.search.room × (g.search.reached ≡ []) };
+    ghost invariant = { λ g. IsKept g.dirty g.hung.items g.nodes.items g.live.items g.barred.items × HasRoom (length g.nodes.items + g.spare_nodes) (length g.live.items + length g.barred.items + g.spare_edges) g.dirty.room (vec_capacity g.hung) (vec_capacity g.nodes) (vec_capacity g.live) (vec_capacity g.barred) g.search.room (vec_capacity g.left) (vec_capacity g.level) × (g.search.reached ≡ []) };
 }
 
 impl Graph {
@@ -131,6 +156,8 @@ impl Graph {
             spare_nodes: 0,
             spare_edges: 0,
             search: Search::new(alloc),
+            left: Vec::new(alloc),
+            level: Vec::new(alloc),
         }
     }
 
@@ -142,6 +169,9 @@ impl Graph {
         let spare_nodes = self.spare_nodes.max(nodes);
         let spare_edges = self.spare_edges.max(edges);
         let all_nodes = in_all(self.nodes.len(), spare_nodes)?;
+        if all_nodes >= NODE_LIMIT {
+            return Err(NoMemory);
+        }
         let all_edges = in_all(self.live.len() + self.barred.len(), spare_edges)?;
         room_for_nodes(
             &mut self.dirty,
@@ -150,6 +180,7 @@ impl Graph {
             &mut self.search,
             all_nodes,
         )?;
+        room_for_levels(&mut self.left, &mut self.level, all_nodes)?;
         room_for_edges(&mut self.live, &mut self.barred, all_edges)?;
         self.spare_nodes = spare_nodes;
         self.spare_edges = spare_edges;
@@ -390,5 +421,24 @@ impl Graph {
         ensures { result ≡ node_count self.now }
     {
         self.nodes.len() as u32
+    }
+
+    /// The greatest level of a node.
+    pub fn levels(&mut self) -> u32
+        ensures level { IsGreatestLevel (marks_of self.old) result }
+        ensures same { self.new ≡ self.old }
+    {
+        let greatest = greatest_level(
+            &self.live,
+            &self.barred,
+            self.dirty.pages(),
+            &mut self.search,
+            &mut self.left,
+            &mut self.level,
+        );
+        if self.hung.is_empty() {
+            return greatest;
+        }
+        greatest.max(1)
     }
 }

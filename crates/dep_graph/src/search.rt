@@ -1,5 +1,5 @@
 // A search along Live edges by marks and a queue. It takes no memory.
-ghost use Rattle.std.specs.Prelude.{◌≡◌, ◌⊎◌, ◌↔◌, ℕ, ◌+◌, ◌<◌, ◌≤◌, ◌||◌, Bool, true, false, eqb, slice_index_or, [], ◌∷◌, ◌++◌, length, slice_index, OnOk, if◌then◌else◌};
+ghost use Rattle.std.specs.Prelude.{◌≡◌, ◌⊎◌, ◌↔◌, ℕ, ◌+◌, ◌<◌, ◌≤◌, ◌^◌, ◌||◌, Bool, true, false, eqb, slice_index_or, [], ◌∷◌, ◌++◌, length, slice_index, OnOk, if◌then◌else◌};
 ghost use Rattle.std.specs.List.{list_any};
 ghost use Rattle.dep_graph.specs.Pages.{holds, IsFirst, IsRising};
 ghost use Rattle.dep_graph.specs.Pairs.{AreRising, has_pair};
@@ -27,12 +27,13 @@ impl Model for Search {
 
     ghost view = { λ s. record { reached = s.queue.items; room = length s.marks.items } };
 
-    ghost invariant = { λ s. IsMarked s.marks.items s.queue.items × (length s.marks.items ≤ vec_capacity s.queue) × (length s.marks.items < 2 ^ 32) };
+    ghost invariant = { λ s. IsMarked s.marks.items s.queue.items × (length s.marks.items ≤ vec_capacity s.queue) × (length s.marks.items < 2 ^ 31) };
 }
 
 impl Search {
     pub fn new(alloc: Global) -> Search
         ensures reached { result.reached ≡ [] }
+        ensures room { result.room ≡ 0 }
     {
         Search {
             marks: Vec::new(alloc),
@@ -42,11 +43,14 @@ impl Search {
 
     // Makes room for so many places.
     pub fn reserve(&mut self, places: u32) -> Result<(), AllocError>
-        requires { self.old.reached ≡ [] }
+        requires none { self.old.reached ≡ [] }
+        requires few { places < 2 ^ 31 }
         ensures reached { self.new.reached ≡ [] }
+        ensures few { self.new.room < 2 ^ 31 }
         ensures ok { OnOk result (places ≤ self.new.room) }
         ensures room { self.old.room ≤ self.new.room }
     {
+        let _ = &self.marks;
         let places = places as usize;
         if places <= self.marks.len() {
             return Ok(());

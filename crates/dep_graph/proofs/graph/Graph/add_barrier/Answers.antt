@@ -51,7 +51,10 @@ invariant_of-self c =
         live = omega (arith, fits.live);
         barred = omega (arith, fits.barred);
         search_fits = fits.search_fits;
+        left_fits = fits.left_fits;
+        level_fits = fits.level_fits;
         few_nodes = fits.few_nodes;
+        few_places = fits.few_places;
         few_edges = omega (arith, fits.few_edges);
       },
       c.self.invariant.2,

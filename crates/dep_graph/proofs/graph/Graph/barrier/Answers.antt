@@ -36,7 +36,10 @@ invariant_of-self c =
         live = omega (arith, fits.live);
         barred = omega (arith, c.clear.ensures.capacity, fits.barred);
         search_fits = omega (arith, fits.search_fits);
+        left_fits = omega (arith, fits.left_fits);
+        level_fits = omega (arith, fits.level_fits);
         few_nodes = omega (arith, fits.few_nodes);
+        few_places = fits.few_places;
         few_edges = omega (arith, fits.few_edges);
       },
       c.self.invariant.2,

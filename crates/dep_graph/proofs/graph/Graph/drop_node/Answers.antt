@@ -64,7 +64,10 @@ invariant_of-self c =
         live = omega (arith, c.remove_out_of.ensures.room, fits.live);
         barred = omega (arith, fits.barred);
         search_fits = omega (arith, c.clean.ensures.len, fits.search_fits);
+        left_fits = omega (arith, c.clean.ensures.len, fits.left_fits);
+        level_fits = omega (arith, c.clean.ensures.len, fits.level_fits);
         few_nodes = omega (arith, c.clean.ensures.len, fits.few_nodes);
+        few_places = fits.few_places;
         few_edges = omega (arith, fits.few_edges);
       },
       c.self.invariant.2,

@@ -11,7 +11,10 @@ invariant_of-result c = rw (c.new-2.ensures.items, c.new-3.ensures.items, c.new-
   live = omega arith;
   barred = omega arith;
   search_fits = omega arith;
+  left_fits = omega arith;
+  level_fits = omega arith;
   few_nodes = omega arith;
+  few_places = omega arith;
   few_edges = omega arith;
 }, c.new-6.ensures.reached)
 
