@@ -16,7 +16,7 @@ use crate::waiting::Waiting;
 use std::alloc::Global;
 use std::marker::Model;
 
-/// There are fewer nodes than this at any time.
+/// A graph has fewer nodes than this, its spare ones included.
 pub const NODE_LIMIT: u32 = 1 << 31;
 
 // So many in all, where a number tells them.
@@ -115,6 +115,8 @@ fn clean(nodes: &mut Vec<u32>, hung: &[u32], page: u32)
 }
 
 /// The dirty and hung pages, and which waits for which.
+///
+/// Contracts see it as plain lists: dirty pages, hung pages, edges, and the numbers of spare nodes and spare edges.
 #[derive(Drop)]
 pub struct Graph {
     dirty: Waiting,
@@ -142,7 +144,7 @@ impl Model for Graph {
 }
 
 impl Graph {
-    /// A graph with no node and no room.
+    /// A graph with no node, no edge and no room. It takes no memory.
     pub fn new(alloc: Global) -> Graph
         ensures lists { result ≡ record { dirty = []; hung = []; edges = []; spare_nodes = 0; spare_edges = 0 } }
         ensures graph { IsGraph result }
@@ -161,7 +163,11 @@ impl Graph {
         }
     }
 
-    /// Makes room for at least so many further nodes and edges.
+    /// Makes room for at least so many further nodes and edges: the spare numbers rise to these, and fall no lower. It is the
+    /// only call that takes memory.
+    ///
+    /// `NoMemory` where no memory is found, where there would be [`NODE_LIMIT`] nodes, or 2^32 edges. The graph is then as before.
+    /// Constant where the room is there; else the vectors are moved.
     pub fn reserve(&mut self, nodes: u32, edges: u32) -> Result<(), NoMemory>
         ensures ok { OnOk result (self.new ≡ record self.old { spare_nodes = max self.old.spare_nodes nodes; spare_edges = max self.old.spare_edges edges }) }
         ensures err { OnErr result (self.new ≡ self.old) }
@@ -187,7 +193,10 @@ impl Graph {
         Ok(())
     }
 
-    /// Whether a Live edge from one page to the other would close a cycle.
+    /// Whether a Live edge from one page to the other would close a cycle: they are one page, or a way of Live edges leads from
+    /// `after` to `before`.
+    ///
+    /// It costs the pages that Live edges lead to from `after`, with their edges, by marks that are taken away again.
     pub fn closes(&mut self, before: u32, after: u32) -> bool
         ensures closes { (result ≡ true) ↔ Closes (live_in self.old) before after }
         ensures same { self.new ≡ self.old }
@@ -211,6 +220,8 @@ impl Graph {
     }
 
     /// The least ready page at or above a number that is the target, or from which a way of Live edges leads to it.
+    ///
+    /// It costs what Live edges lead to from the ready pages at or above `from` up to the answer, each page and edge once.
     pub fn first_ready_before(&mut self, target: u32, from: u32) -> Option<u32>
         ensures least { IsLeast (λ page. (is_ready self.old page ≡ true) × Closes (live_in self.old) target page) from result }
         ensures same { self.new ≡ self.old }
@@ -227,28 +238,29 @@ impl Graph {
         )
     }
 
-    /// Whether the page is dirty: edited since its last write.
+    /// Whether the page is dirty: edited since its last write. Logarithmic.
     pub fn is_dirty(&self, page: u32) -> bool
         ensures { result ≡ dirty_in self.now page }
     {
         self.dirty.contains(page)
     }
 
-    /// Whether the page is hung: written, and not yet covered by a barrier.
+    /// Whether the page is hung: written, and not yet covered by a barrier. Logarithmic.
     pub fn is_hung(&self, page: u32) -> bool
         ensures { result ≡ hung_in self.now page }
     {
         pages::contains(&self.hung, page)
     }
 
-    /// Whether the page is dirty and no edge leads to it.
+    /// Whether the page is ready: dirty, and no edge leads to it. Logarithmic.
     pub fn ready(&self, page: u32) -> bool
         ensures { result ≡ is_ready self.now page }
     {
         self.dirty.is_ready(page)
     }
 
-    /// Marks the page dirty.
+    /// Marks the page dirty. A page that is not a node takes one spare node. Logarithmic, beside moving small elements of
+    /// sorted vectors.
     pub fn enter(&mut self, page: u32)
         requires { is_node self.old page ≡ false → 0 < self.old.spare_nodes }
         ensures dirty { (a : ℕ) → dirty_in self.new a ≡ (dirty_in self.old a || eqb a page) }
@@ -268,7 +280,9 @@ impl Graph {
         }
     }
 
-    /// Adds an edge, or nothing where it is there.
+    /// Adds an edge, or nothing where it is there; a new edge takes one spare edge. `before` must be written and covered by a
+    /// barrier ahead of the next write of `after`: a Live edge waits for its write, a Barrier edge for a barrier alone.
+    /// Logarithmic, beside moving small elements of sorted vectors.
     pub fn add(&mut self, before: u32, after: u32, kind: Kind)
         requires spare { 0 < self.old.spare_edges }
         requires after { dirty_in self.old after ≡ true }
@@ -331,7 +345,8 @@ impl Graph {
         self.spare_edges -= 1;
     }
 
-    /// The page, which was ready, was written.
+    /// The page, which was ready, was written: it is hung and not dirty, and its outgoing Live edges wait for a barrier alone.
+    /// It costs the page's own edges, each with a look-up, beside moving small elements of sorted vectors.
     pub fn wrote(&mut self, page: u32)
         requires { is_ready self.old page ≡ true }
         ensures dirty { (a : ℕ) → dirty_in self.new a ≡ (dirty_in self.old a && not (eqb a page)) }
@@ -352,7 +367,8 @@ impl Graph {
         pages::include(&mut self.hung, page);
     }
 
-    /// A barrier was made.
+    /// A barrier was made: all hung marks and all Barrier edges go, and each page without a mark is no node any more.
+    /// It costs the Barrier edges, each with a look-up, and a copy of the numbers of the dirty pages.
     pub fn barrier(&mut self)
         ensures dirty { self.new.dirty ≡ self.old.dirty }
         ensures hung { self.new.hung ≡ [] }
@@ -368,7 +384,8 @@ impl Graph {
         copy_into(&mut self.nodes, self.dirty.pages());
     }
 
-    /// Takes the dirty mark from a page to which no edge leads.
+    /// Takes the dirty mark from a page to which no edge leads, and its outgoing Live edges. A page that is also hung stays a
+    /// node. It costs the page's own edges, each with a look-up, beside moving small elements of sorted vectors.
     pub fn drop_node(&mut self, page: u32)
         requires { waits_in self.old page ≡ false }
         ensures dirty { (a : ℕ) → dirty_in self.new a ≡ (dirty_in self.old a && not (eqb a page)) }
@@ -388,42 +405,44 @@ impl Graph {
         clean(&mut self.nodes, &self.hung, page);
     }
 
-    /// The least ready page at or above a number.
+    /// The least ready page at or above a number. Logarithmic.
     pub fn first_ready(&self, from: u32) -> Option<u32>
         ensures { IsLeast (λ page. is_ready self.now page ≡ true) from result }
     {
         self.dirty.first_ready(from)
     }
 
-    /// How many pages wait for the write of this one.
+    /// To how many pages a Live edge leads from this one. Logarithmic.
     pub fn waiters(&self, page: u32) -> u32
         ensures { result ≡ waiter_count self.now page }
     {
         pairs::out_of(&self.live, page).len() as u32
     }
 
-    /// How many pages are dirty.
+    /// How many pages are dirty. Constant.
     pub fn dirty(&self) -> u32
         ensures { result ≡ length self.now.dirty }
     {
         self.dirty.pages().len() as u32
     }
 
-    /// How many pages are hung.
+    /// How many pages are hung. Constant.
     pub fn hung(&self) -> u32
         ensures { result ≡ length self.now.hung }
     {
         self.hung.len() as u32
     }
 
-    /// How many pages are dirty or hung.
+    /// How many pages are dirty or hung. Constant.
     pub fn nodes(&self) -> u32
         ensures { result ≡ node_count self.now }
     {
         self.nodes.len() as u32
     }
 
-    /// The greatest level of a node.
+    /// The greatest level of a node, or 0 where there is none: as many barriers as a flush needs. A node to which no edge leads
+    /// has level 1, as has one that is hung alone; another is one above the greatest of the pages before it on Live edges, and
+    /// above 1 where a Barrier edge leads to it. It costs the dirty pages and the edges once, each edge with a look-up.
     pub fn levels(&mut self) -> u32
         ensures level { IsGreatestLevel (marks_of self.old) result }
         ensures same { self.new ≡ self.old }

@@ -1,4 +1,9 @@
 //! Which dirty page must be on the device before which other.
+//!
+//! A page is dirty where it was edited since its last write, and hung where it was written and no barrier came since. An edge
+//! leads from a page that must be written and covered by a barrier to one whose next write waits for that. No cycle ever
+//! stands, so some dirty page can always be written next; a flush goes in waves, and has as many barriers as the graph has
+//! levels, which no order of writes and barriers can undercut.
 #![tactic(auto)]
 
 mod graph;
@@ -18,9 +23,14 @@ pub use laws::{barriers_are_fewest, edges_into_one_page};
 #[derive(Clone, Copy, Debug)]
 pub struct NoMemory;
 
-/// What an edge waits for: a Live edge for the write of the page before and then a barrier, a Barrier edge for a barrier alone.
+/// What an edge waits for.
 #[derive(Clone, Copy, Debug, PartialEq, Eq)]
 pub enum Kind {
+    /// The write of the page before, and then a barrier.
     Live,
+    /// A barrier alone.
     Barrier,
 }
+
+#[cfg(test)]
+mod tests;
