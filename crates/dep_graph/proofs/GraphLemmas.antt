@@ -1,12 +1,12 @@
 -- What the vectors of a graph say of its lists.
-use Rattle.std.proofs.Common.{◌≡◌, ◌⊎◌, inl, inr, ℕ, zero, suc, ◌+◌, ◌-◌, ◌<◌, ◌≤◌, Bool, true, false, not, ◌&&◌, ◌||◌, cond, List, [], ◌∷◌, ◌++◌, length, take, drop, get_or, map, filter, refl, sym, ◌∙◌, ap, subst, arith, eqb, leb, eqb-true, eq-eqb, ne_eqb, Option, Some, None}
+use Rattle.std.proofs.Common.{◌≡◌, inl, inr, ℕ, suc, ◌+◌, ◌<◌, ◌≤◌, Bool, true, false, not, ◌&&◌, ◌||◌, List, [], ◌∷◌, ◌++◌, length, get_or, map, filter, refl, sym, ◌∙◌, ap, subst, arith, eqb, leb, eqb-true, eq-eqb, ne_eqb, Option, Some, None}
 use Rattle.std.specs.List.{list_any}
 use Rattle.std.proofs.lemmas.Bool.{and_from, and_parts, cases_Bool, cases_eq, cases_lt, cases_order, le-leb, leb-true, or_from, or_left, or_right, true≢false}
 use Rattle.dep_graph.specs.declared.pairs.Pair.{Pair}
 use Rattle.dep_graph.specs.Pages.{holds, IsFirst, IsLeast, IsRising}
 use Rattle.dep_graph.specs.Paths.{LivePath}
 use Rattle.dep_graph.specs.Pairs.{has_pair, ends_at, from_page, not_from_page}
-use Rattle.dep_graph.specs.Lists.{Edge, GraphLists, IsGraph, barrier_edge, edges_of, is_live, live_edge}
+use Rattle.dep_graph.specs.Lists.{Edge, IsGraph, barrier_edge, edges_of, is_live, live_edge}
 use Rattle.dep_graph.specs.Waits.{Waits, waits_for}
 use Rattle.std.proofs.lemmas.List.Filters.{length-filter_both}
 use Rattle.dep_graph.specs.Kept.{IsKept}
@@ -42,16 +42,20 @@ nothing_more x = grind arith
 pub live_is : (live barred : List Pair) (a b : ℕ) → list_any (λ (e : Edge). eqb e.before a && (eqb e.after b && is_live e.kind)) (edges_of live barred) ≡ has_pair live a b
 live_is live barred a b =
     any_append (λ (e : Edge). eqb e.before a && (eqb e.after b && is_live e.kind)) (map live_edge live) (map barrier_edge barred)
-    ∙ rw (any_map live_edge (λ (e : Edge). eqb e.before a && (eqb e.after b && is_live e.kind)) (λ p. eqb p.before a && eqb p.after b) (λ p. on_true (eqb p.before a) (eqb p.after b)) live,
-        any_map barrier_edge (λ (e : Edge). eqb e.before a && (eqb e.after b && is_live e.kind)) (λ p. false) (λ p. on_false (eqb p.before a) (eqb p.after b)) barred,
-        none barred) (nothing_more (has_pair live a b))
+    ∙ rw (
+      any_map live_edge (λ (e : Edge). eqb e.before a && (eqb e.after b && is_live e.kind)) (λ p. eqb p.before a && eqb p.after b) (λ p. on_true (eqb p.before a) (eqb p.after b)) live,
+      any_map barrier_edge (λ (e : Edge). eqb e.before a && (eqb e.after b && is_live e.kind)) (λ p. false) (λ p. on_false (eqb p.before a) (eqb p.after b)) barred,
+      none barred,
+    ) (nothing_more (has_pair live a b))
 
 pub barred_is : (live barred : List Pair) (a b : ℕ) → list_any (λ (e : Edge). eqb e.before a && (eqb e.after b && not (is_live e.kind))) (edges_of live barred) ≡ has_pair barred a b
 barred_is live barred a b =
     any_append (λ (e : Edge). eqb e.before a && (eqb e.after b && not (is_live e.kind))) (map live_edge live) (map barrier_edge barred)
-    ∙ rw (any_map live_edge (λ (e : Edge). eqb e.before a && (eqb e.after b && not (is_live e.kind))) (λ p. false) (λ p. on_false (eqb p.before a) (eqb p.after b)) live,
-        any_map barrier_edge (λ (e : Edge). eqb e.before a && (eqb e.after b && not (is_live e.kind))) (λ p. eqb p.before a && eqb p.after b) (λ p. on_true (eqb p.before a) (eqb p.after b)) barred,
-        none live)
+    ∙ rw (
+      any_map live_edge (λ (e : Edge). eqb e.before a && (eqb e.after b && not (is_live e.kind))) (λ p. false) (λ p. on_false (eqb p.before a) (eqb p.after b)) live,
+      any_map barrier_edge (λ (e : Edge). eqb e.before a && (eqb e.after b && not (is_live e.kind))) (λ p. eqb p.before a && eqb p.after b) (λ p. on_true (eqb p.before a) (eqb p.after b)) barred,
+      none live,
+    )
 
 ends_any : (ps : List Pair) (b : ℕ) → list_any (λ p. eqb p.after b) ps ≡ not (eqb (ends_at ps b) 0)
 unfolding ends_at
@@ -75,7 +79,7 @@ pub waits_is : (live barred : List Pair) (b : ℕ) → list_any (λ (e : Edge). 
 waits_is live barred b =
     any_append (λ (e : Edge). eqb e.after b) (map live_edge live) (map barrier_edge barred)
     ∙ rw (any_map live_edge (λ (e : Edge). eqb e.after b) (λ p. eqb p.after b) (λ p. refl) live, any_map barrier_edge (λ (e : Edge). eqb e.after b) (λ p. eqb p.after b) (λ p. refl) barred, ends_any live b, ends_any barred b)
-        (both_none (ends_at live b) (ends_at barred b))
+    (both_none (ends_at live b) (ends_at barred b))
 
 pub graph_of : (dirty : Waits) (hung nodes : List ℕ) (live barred : List Pair) (n e : ℕ) → IsKept dirty hung nodes live barred
     → IsGraph (record { dirty = dirty.pages; hung = hung; edges = edges_of live barred; spare_nodes = n; spare_edges = e })
@@ -242,8 +246,11 @@ filter_nothing (x ∷ xs) = filter_nothing xs
 pub waiters_are : (live barred : List Pair) (page : ℕ) → length (filter (λ (e : Edge). eqb e.before page && is_live e.kind) (edges_of live barred)) ≡ length (from_page live page)
 waiters_are live barred page =
     filter_append (λ (e : Edge). eqb e.before page && is_live e.kind) (map live_edge live) (map barrier_edge barred)
-    ∙ rw (filter_map' live_edge (λ (e : Edge). eqb e.before page && is_live e.kind) (λ p. eqb p.before page) (λ p. yes_live (eqb p.before page)) live,
-        filter_map' barrier_edge (λ (e : Edge). eqb e.before page && is_live e.kind) (λ p. false) (λ p. not_live (eqb p.before page)) barred, filter_nothing barred) (omega arith)
+    ∙ rw (
+      filter_map' live_edge (λ (e : Edge). eqb e.before page && is_live e.kind) (λ p. eqb p.before page) (λ p. yes_live (eqb p.before page)) live,
+      filter_map' barrier_edge (λ (e : Edge). eqb e.before page && is_live e.kind) (λ p. false) (λ p. not_live (eqb p.before page)) barred,
+      filter_nothing barred,
+    ) (omega arith)
   where
     yes_live : (x : Bool) → (x && true) ≡ x
     yes_live x = grind arith
@@ -256,10 +263,10 @@ pub nodes_are : (dirty : Waits) (hung nodes : List ℕ) (live barred : List Pair
 nodes_are dirty hung nodes live barred k =
     let both = length-filter_both (holds dirty.pages) (λ a. not (holds dirty.pages a)) (λ a. refl) nodes in
     let marked = as_long (filter (holds dirty.pages) nodes) dirty.pages (rises_filter (λ a b. a < b) (holds dirty.pages) nodes k.nodes_rising) k.dirty_rising
-        (λ a. holds_filter (holds dirty.pages) nodes a ∙ rw (k.node a) (only (holds dirty.pages a) (holds hung a))) in
+    (λ a. holds_filter (holds dirty.pages) nodes a ∙ rw (k.node a) (only (holds dirty.pages a) (holds hung a))) in
     let others = as_long (filter (λ a. not (holds dirty.pages a)) nodes) (filter (λ a. not (holds dirty.pages a)) hung) (rises_filter (λ a b. a < b) (λ a. not (holds dirty.pages a)) nodes k.nodes_rising)
-        (rises_filter (λ a b. a < b) (λ a. not (holds dirty.pages a)) hung k.hung_rising)
-        (λ a. holds_filter (λ a. not (holds dirty.pages a)) nodes a ∙ rw (k.node a) (rest (holds dirty.pages a) (holds hung a)) ∙ sym (holds_filter (λ a. not (holds dirty.pages a)) hung a)) in
+    (rises_filter (λ a b. a < b) (λ a. not (holds dirty.pages a)) hung k.hung_rising)
+    (λ a. holds_filter (λ a. not (holds dirty.pages a)) nodes a ∙ rw (k.node a) (rest (holds dirty.pages a) (holds hung a)) ∙ sym (holds_filter (λ a. not (holds dirty.pages a)) hung a)) in
     omega arith
   where
     only : (x y : Bool) → ((x || y) && x) ≡ x
@@ -293,11 +300,11 @@ least_of_first P ready pages from (Some page) up is (k, (lt, (at, (held, earlier
       (both.0, held),
       leb-true from page both.1,
       λ a h le.
-        let w = any_where (λ p. eqb p a) pages 0 (is a ∙ and_from _ _ h.0 (le-leb from a le)) in
-        let same : get_or pages w.0 0 ≡ a = eqb-true _ _ w.2 in
-        elim (cases_order w.0 k) [
-          | inl here ↦ let e : get_or pages w.0 0 ≡ page = ap (λ n. get_or pages n 0) here ∙ at in omega arith
-          | inr (inl before) ↦ absurd (earlier w.0 before (subst P (sym same) h.1))
-          | inr (inr after) ↦ let more = rises_at (λ a b. a < b) pages 0 up k w.0 after w.1 in omega arith
-        ],
+          let w = any_where (λ p. eqb p a) pages 0 (is a ∙ and_from _ _ h.0 (le-leb from a le)) in
+          let same : get_or pages w.0 0 ≡ a = eqb-true _ _ w.2 in
+          elim (cases_order w.0 k) [
+            | inl here ↦ let e : get_or pages w.0 0 ≡ page = ap (λ n. get_or pages n 0) here ∙ at in omega arith
+            | inr (inl before) ↦ absurd (earlier w.0 before (subst P (sym same) h.1))
+            | inr (inr after) ↦ let more = rises_at (λ a b. a < b) pages 0 up k w.0 after w.1 in omega arith
+          ],
     )

@@ -1,11 +1,11 @@
 -- Each change of a graph keeps what its vectors keep.
-use Rattle.std.proofs.Common.{◌≡◌, ◌⊎◌, inl, inr, ℕ, ◌+◌, ◌-◌, ◌<◌, ◌≤◌, Bool, true, false, not, ◌&&◌, ◌||◌, cond, List, [], ◌∷◌, length, refl, sym, ◌∙◌, ap, subst, arith, eqb, eqb-true, eq-eqb, ne_eqb}
-use Rattle.std.proofs.lemmas.Bool.{and_from, and_parts, cases_Bool, cases_eq, or_cases, or_left, or_right, true≢false}
+use Rattle.std.proofs.Common.{◌≡◌, ◌⊎◌, inl, inr, ℕ, ◌+◌, Bool, true, false, not, ◌&&◌, ◌||◌, cond, List, [], ◌∷◌, refl, sym, ◌∙◌, ap, subst, arith, eqb, eqb-true, eq-eqb, ne_eqb}
+use Rattle.std.proofs.lemmas.Bool.{and_from, and_parts, cases_eq, or_cases, or_left, or_right, true≢false}
 use Rattle.dep_graph.specs.Rising.{Rises}
 use Rattle.dep_graph.specs.declared.pairs.Pair.{Pair}
 use Rattle.dep_graph.specs.Pages.{holds, IsRising}
 use Rattle.dep_graph.specs.Pairs.{has_pair, ends_at, from_page, not_from_page, AreRising}
-use Rattle.dep_graph.specs.Paths.{LivePath, IsAcyclic, Closes}
+use Rattle.dep_graph.specs.Paths.{IsAcyclic, Closes}
 use Rattle.dep_graph.specs.Waits.{Waits, count_at, waits_for}
 use Rattle.dep_graph.specs.Kept.{IsKept}
 use Rattle.dep_graph.proofs.PathLemmas.{acyclic_fewer, acyclic_more, way_begins}

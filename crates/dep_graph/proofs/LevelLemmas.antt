@@ -1,22 +1,22 @@
 -- Levels while they are found: what each edge and each page changes.
 use Rattle.std.proofs.Common.{◌≡◌, ◌⊎◌, inl, inr, ℕ, zero, suc, ◌+◌, ◌-◌, ◌<◌, ◌≤◌, Bool, true, false, not, ◌&&◌, ◌||◌, cond, List, [], ◌∷◌, ◌++◌, length, take, get_or, set, filter, max, refl, sym, ◌∙◌, ap, subst, arith, eqb, eqb-true, eq-eqb, ne_eqb, add-one}
 use Rattle.std.specs.List.{list_any}
-use Rattle.std.proofs.lemmas.Bool.{and_from, and_parts, and_right, cases_Bool, cases_eq, cases_lt, cases_order, not-true, not_from_false, or_cases, or_left, or_right, true≢false}
-use Rattle.std.proofs.lemmas.List.{get_or_append_left, get_or_push, get_or_read, get_or-take, length-set, length-take-le, length_push}
+use Rattle.std.proofs.lemmas.Bool.{and_from, and_parts, cases_Bool, cases_eq, cases_lt, cases_order, not-true, not_from_false, or_cases, or_left, or_right, true≢false}
+use Rattle.std.proofs.lemmas.List.{get_or_append_left, get_or_push, get_or_read, get_or-take, length-take-le, length_push}
 use Rattle.dep_graph.specs.declared.pairs.Pair.{Pair}
 use Rattle.dep_graph.specs.Pages.{holds, IsAt, IsRising}
 use Rattle.dep_graph.specs.Pairs.{ends_at, from_page, has_pair}
-use Rattle.dep_graph.specs.Paths.{LivePath, leg, via, IsAcyclic}
+use Rattle.dep_graph.specs.Paths.{LivePath, leg, IsAcyclic}
 use Rattle.dep_graph.specs.Trails.{seen, AreApart, AreWithin}
 use Rattle.dep_graph.specs.Heights.{AreClimbed}
-use Rattle.dep_graph.specs.Marks.{HasLevels, IsGreatestLevel, IsNode, Marks}
+use Rattle.dep_graph.specs.Marks.{HasLevels, IsGreatestLevel, Marks}
 use Rattle.dep_graph.specs.Waits.{count_at}
 use Rattle.dep_graph.proofs.GraphLemmas.{has_ends, has_from}
 use Rattle.dep_graph.proofs.MoveLemmas.{ends_next}
 use Rattle.dep_graph.proofs.PageLemmas.{flip, found, holds_filter}
 use Rattle.dep_graph.proofs.PathLemmas.{way_join}
 use Rattle.dep_graph.proofs.RisingLemmas.{any_at, any_where, rises_at}
-use Rattle.dep_graph.proofs.SearchLemmas.{any_more, in_queue, place_of_seen, seen_visit, visit_within, visit_front, visit_grows}
+use Rattle.dep_graph.proofs.SearchLemmas.{place_of_seen, seen_visit, visit_within, visit_front, visit_grows}
 use Rattle.dep_graph.proofs.WaitLemmas.{count_place, read_count, set_count}
 
 -- a number that is read and changed

@@ -1,11 +1,11 @@
 -- Look-ups in lists of page numbers.
-use Rattle.std.proofs.Common.{◌≡◌, inl, inr, ℕ, zero, suc, ◌+◌, ◌-◌, ◌<◌, ◌≤◌, Bool, true, false, not, ◌&&◌, ◌||◌, List, [], ◌∷◌, ◌++◌, length, take, drop, filter, get_or, refl, sym, ◌∙◌, ap, subst, arith, eqb, leb, ltb, eqb-true, eq-eqb, ne_eqb}
+use Rattle.std.proofs.Common.{◌≡◌, inl, inr, ℕ, suc, ◌+◌, ◌-◌, ◌<◌, ◌≤◌, Bool, true, false, not, ◌&&◌, ◌||◌, List, [], ◌∷◌, ◌++◌, length, take, drop, filter, get_or, refl, sym, ◌∙◌, ap, subst, arith, eqb, leb, ltb, eqb-true, eq-eqb, ne_eqb}
 use Rattle.std.proofs.lemmas.Bool.{cases_Bool, cases_eq, cases_lt, or_parts, or_right, le-leb, lt-leb, lt-ltb, ltb-true, ltb-false, true≢false}
 use Rattle.std.proofs.lemmas.List.{get_or-drop, length-drop}
 use Rattle.std.specs.List.Sorted.{IsPartitionedBy, IsPartitionPoint}
 use Rattle.dep_graph.specs.Rising.{Leads, Rises}
 use Rattle.dep_graph.specs.Pages.{holds, IsAt, IsPlace, IsRising}
-use Rattle.dep_graph.proofs.RisingLemmas.{partitioned, leads_at, rises_at, rises_insert, rises_remove, absent_after, any_insert, any_remove, any_at, any_none, any_where}
+use Rattle.dep_graph.proofs.RisingLemmas.{partitioned, leads_at, rises_at, rises_insert, absent_after, any_insert, any_remove, any_at, any_none, any_where}
 
 pub flip : (a b : ℕ) → eqb a b ≡ eqb b a
 flip a b = elim (cases_eq a b) [
@@ -161,11 +161,13 @@ least_from ps k from a up at h le =
     let after : k ≤ w.0 = elim (cases_lt w.0 k) [
       | inl before ↦ absurd (let b = at.below w.0 before in omega arith)
       | inr past ↦ past
-    ] in
-    (omega (arith, w.1, after), elim (cases_eq k w.0) [
-      | inl same ↦ let e : get_or ps k 0 ≡ a = ap (λ i. get_or ps i 0) same ∙ is in omega arith
-      | inr other ↦ let lt : get_or ps k 0 < get_or ps w.0 0 = rises_at (λ a b. a < b) ps 0 up k w.0 (omega (arith, after, other)) w.1 in omega arith
-    ])
+    ] in (
+      omega (arith, w.1, after),
+      elim (cases_eq k w.0) [
+        | inl same ↦ let e : get_or ps k 0 ≡ a = ap (λ i. get_or ps i 0) same ∙ is in omega arith
+        | inr other ↦ let lt : get_or ps k 0 < get_or ps w.0 0 = rises_at (λ a b. a < b) ps 0 up k w.0 (omega (arith, after, other)) w.1 in omega arith
+      ],
+    )
 
 pub holds_filter : (q : ℕ → Bool) (ps : List ℕ) (a : ℕ) → holds (filter q ps) a ≡ holds ps a && q a
 holds_filter q [] a = refl

@@ -29,10 +29,14 @@ acyclic_fewer live less sub old a p = old a (way_more sub p)
 
 last_edge : {live : ℕ → ℕ → Bool} {a b : ℕ} → LivePath live a b → (x : ℕ) × (live x b ≡ true) × ((x ≡ a) ⊎ LivePath live a x)
 last_edge {a = a} (leg e) = (a, e, inl refl)
-last_edge {live = live} {a = a} (via {b = b} e p) = let q = last_edge p in (q.0, q.1, inr (elim q.2 [
-  | inl same ↦ subst (λ n. LivePath live a n) (sym same) (leg e)
-  | inr way ↦ via e way
-]))
+last_edge {live = live} {a = a} (via {b = b} e p) = let q = last_edge p in (
+  q.0,
+  q.1,
+  inr (elim q.2 [
+    | inl same ↦ subst (λ n. LivePath live a n) (sym same) (leg e)
+    | inr way ↦ via e way
+  ]),
+)
 
 -- edges that are added into one page
 module _ (live more : ℕ → ℕ → Bool) (page : ℕ) (sub : (a b : ℕ) → live a b ≡ true → more a b ≡ true) (only : (a b : ℕ) → more a b ≡ true → (live a b ≡ true) ⊎ (b ≡ page)) where

@@ -1,8 +1,8 @@
 -- No complete schedule has fewer barriers than a node's level, and waves have no more than the greatest.
-use Rattle.std.proofs.Common.{◌≡◌, ◌⊎◌, inl, inr, ◌+◌, ◌-◌, ◌<◌, ◌≤◌, ◌++◌, ℕ, zero, suc, Bool, true, false, cond, refl, arith, sym, ap, ◌∙◌, subst, List, [], ◌∷◌, length, append_assoc}
+use Rattle.std.proofs.Common.{◌≡◌, inl, inr, ◌+◌, ◌-◌, ◌<◌, ◌≤◌, ◌++◌, ℕ, zero, suc, true, false, cond, arith, sym, ap, ◌∙◌, List, [], ◌∷◌, length, append_assoc}
 use Rattle.std.proofs.lemmas.Bool.{cases_Bool, false_from_ne_true, true≢false}
 use Rattle.dep_graph.specs.Marks.{EndsAreMarked, HasLevels, IsGreatestLevel, IsNode, Marks, StepsUp, Waits}
-use Rattle.dep_graph.specs.Schedules.{IsComplete, MakeBarrier, Respects, Schedule, Step, Wave, Waves, WritePage, barriers, times_written}
+use Rattle.dep_graph.specs.Schedules.{IsComplete, MakeBarrier, Respects, Schedule, Wave, Waves, WritePage, barriers, times_written}
 
 barriers_parts : (s t : Schedule) → barriers (s ++ t) ≡ barriers s + barriers t
 barriers_parts [] t = omega arith
@@ -111,10 +111,16 @@ no_longer m (n ∷ ns) level ends levels w p node = elim (levels.is p node) [
 
 as_long : (m : Marks) (ns : List Marks) (level : ℕ → ℕ) → EndsAreMarked m → HasLevels m level → Waves m ns → 0 < length ns → (p : ℕ) × (IsNode m p × (level p ≡ length ns))
 as_long m [] level ends levels w pos = absurd (omega arith)
-as_long m (n ∷ []) level ends levels w pos = let p = w.0.node in (p.0, (p.1, elim (levels.is p.0 p.1) [
-  | inl one ↦ one
-  | inr up ↦ absurd (w.1 p.0 (inl (w.0.dirty_kept p.0 up.0 (steps_wait m level ends levels p.0 up.1))))
-]))
+as_long m (n ∷ []) level ends levels w pos = let p = w.0.node in (
+  p.0,
+  (
+    p.1,
+    elim (levels.is p.0 p.1) [
+      | inl one ↦ one
+      | inr up ↦ absurd (w.1 p.0 (inl (w.0.dirty_kept p.0 up.0 (steps_wait m level ends levels p.0 up.1))))
+    ],
+  ),
+)
 as_long m (n ∷ (o ∷ os)) level ends levels w pos =
     let rest = as_long n (o ∷ os) (λ p. level p - 1) (wave_ends m level ends levels n w.0) (wave_levels m level ends levels n w.0) w.1 (omega arith) in
     let q = left m level ends levels n w.0 rest.0 rest.1.0 in

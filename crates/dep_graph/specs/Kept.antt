@@ -1,5 +1,5 @@
 -- What the vectors of a graph keep.
-use Rattle.std.specs.Prelude.{◌≡◌, ◌||◌, ℕ, ◌+◌, ◌<◌, ◌≤◌, ◌^◌, List, Bool, true, length}
+use Rattle.std.specs.Prelude.{◌≡◌, ◌||◌, ℕ, ◌+◌, ◌<◌, ◌≤◌, ◌^◌, List, true}
 use Rattle.dep_graph.specs.declared.pairs.Pair.{Pair}
 use Rattle.dep_graph.specs.Pages.{holds, IsRising}
 use Rattle.dep_graph.specs.Pairs.{has_pair, ends_at, AreRising}

@@ -1,5 +1,5 @@
 -- A graph as contracts see it: plain lists of marks and edges.
-use Rattle.std.specs.Prelude.{◌≡◌, ℕ, ◌+◌, ◌<◌, ◌⊎◌, ◌++◌, List, [], Bool, true, false, not, ◌&&◌, ◌||◌, eqb, map, filter, length}
+use Rattle.std.specs.Prelude.{◌≡◌, ℕ, ◌+◌, ◌++◌, List, Bool, true, false, not, ◌&&◌, ◌||◌, eqb, map, filter, length}
 use Rattle.std.specs.List.{list_any}
 use Rattle.dep_graph.specs.declared.Kind.{Kind}
 use Rattle.dep_graph.specs.declared.Kind.TheVariants.{Live, Barrier}

@@ -1,5 +1,5 @@
 -- Marks and edges as tests, and the levels of nodes.
-use Rattle.std.specs.Prelude.{◌≡◌, ◌⊎◌, ℕ, ◌+◌, ◌<◌, ◌≤◌, Bool, true, false}
+use Rattle.std.specs.Prelude.{◌≡◌, ◌⊎◌, ℕ, ◌+◌, ◌<◌, ◌≤◌, Bool, true}
 use Rattle.dep_graph.specs.Lists.{GraphLists, barred_in, dirty_in, hung_in, live_in}
 
 -- the marks and edges at a moment

@@ -1,5 +1,5 @@
 -- Lists of page numbers.
-use Rattle.std.specs.Prelude.{◌≡◌, ℕ, ◌<◌, ◌≤◌, List, Bool, true, eqb, length, slice_index, Option, Some, None}
+use Rattle.std.specs.Prelude.{◌≡◌, ℕ, ◌<◌, ◌≤◌, List, Bool, eqb, length, slice_index, Option, Some, None}
 use Rattle.std.specs.List.{list_any}
 use Rattle.dep_graph.specs.Rising.{Rises}
 

@@ -1,5 +1,5 @@
 -- Lists of pairs of pages, of which the first must be on the device before the second.
-use Rattle.std.specs.Prelude.{◌≡◌, ◌⊎◌, ◌&&◌, ◌||◌, ℕ, ◌+◌, ◌<◌, ◌≤◌, List, [], ◌∷◌, Bool, true, eqb, nat_lt, not, length, filter, slice_index_or, if◌then◌else◌}
+use Rattle.std.specs.Prelude.{◌≡◌, ◌⊎◌, ◌&&◌, ◌||◌, ℕ, ◌+◌, ◌<◌, ◌≤◌, List, [], ◌∷◌, Bool, eqb, nat_lt, not, length, filter, slice_index_or, if◌then◌else◌}
 use Rattle.std.specs.List.{list_any}
 use Rattle.dep_graph.specs.Rising.{Rises}
 use Rattle.dep_graph.specs.declared.pairs.Pair.{Pair}

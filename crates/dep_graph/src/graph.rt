@@ -5,14 +5,13 @@ ghost use Rattle.dep_graph.specs.Pages.{holds, IsLeast, IsRising};
 ghost use Rattle.dep_graph.specs.Marks.{IsGreatestLevel, marks_of};
 ghost use Rattle.dep_graph.specs.Paths.{Closes};
 
-use crate::{Kind, NoMemory};
 use crate::levels::greatest_level;
 use crate::moves::{bar_each, lower_each};
-use crate::pages;
 use crate::pairs::{self, Pair};
 use crate::room::{copy_into, room_for};
 use crate::search::{Search, first_reaching, reaches};
 use crate::waiting::Waiting;
+use crate::{Kind, NoMemory, pages};
 use std::alloc::Global;
 use std::marker::Model;
 

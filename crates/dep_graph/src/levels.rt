@@ -83,7 +83,14 @@ fn reach_free(pages: &[u32], left: &[u32], search: &mut Search)
 }
 
 // One edge: its page waits for one less, stands above the page before, and is reached where it waits for none.
-fn relax(page: u32, height: u32, pages: &[u32], search: &mut Search, left: &mut Vec<u32>, level: &mut Vec<u32>)
+fn relax(
+    page: u32,
+    height: u32,
+    pages: &[u32],
+    search: &mut Search,
+    left: &mut Vec<u32>,
+    level: &mut Vec<u32>,
+)
     requires rising { IsRising pages.now }
     requires there { holds pages.now page ≡ true }
     requires waits { 0 < count_at pages.now left.old.items page }
@@ -114,7 +121,14 @@ fn relax(page: u32, height: u32, pages: &[u32], search: &mut Search, left: &mut 
 }
 
 // The edges from one page, at this height.
-fn relax_each(out: &[Pair], height: u32, pages: &[u32], search: &mut Search, left: &mut Vec<u32>, level: &mut Vec<u32>)
+fn relax_each(
+    out: &[Pair],
+    height: u32,
+    pages: &[u32],
+    search: &mut Search,
+    left: &mut Vec<u32>,
+    level: &mut Vec<u32>,
+)
     requires rising { IsRising pages.now }
     requires there { (k : ℕ) (d : Pair) → k < length out.now → holds pages.now (slice_index_or out.now k d).after ≡ true }
     requires waits { (p : ℕ) → ends_at out.now p ≤ count_at pages.now left.old.items p }
@@ -142,7 +156,13 @@ fn relax_each(out: &[Pair], height: u32, pages: &[u32], search: &mut Search, lef
 }
 
 // Takes the pages that are reached one after another, until each page was.
-fn climb(live: &[Pair], pages: &[u32], search: &mut Search, left: &mut Vec<u32>, level: &mut Vec<u32>)
+fn climb(
+    live: &[Pair],
+    pages: &[u32],
+    search: &mut Search,
+    left: &mut Vec<u32>,
+    level: &mut Vec<u32>,
+)
     requires rising { IsRising pages.now }
     requires live_rising { AreRising live.now }
     requires ends { (a b : ℕ) → has_pair live.now a b ≡ true → (holds pages.now a ≡ true) × (holds pages.now b ≡ true) }
@@ -195,7 +215,14 @@ fn greatest_of(numbers: &[u32]) -> u32
 }
 
 // The greatest level of a dirty page, or 0 where there is none.
-pub fn greatest_level(live: &[Pair], barred: &[Pair], pages: &[u32], search: &mut Search, left: &mut Vec<u32>, level: &mut Vec<u32>) -> u32
+pub fn greatest_level(
+    live: &[Pair],
+    barred: &[Pair],
+    pages: &[u32],
+    search: &mut Search,
+    left: &mut Vec<u32>,
+    level: &mut Vec<u32>,
+) -> u32
     requires rising { IsRising pages.now }
     requires live_rising { AreRising live.now }
     requires ends { (a b : ℕ) → has_pair live.now a b ≡ true → (holds pages.now a ≡ true) × (holds pages.now b ≡ true) }

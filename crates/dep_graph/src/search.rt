@@ -178,7 +178,13 @@ pub fn reaches(live: &[Pair], pages: &[u32], search: &mut Search, from: u32, to:
 }
 
 // The first of some pages from which a way leads to another, or which is that one.
-pub fn first_reaching(candidates: &[u32], live: &[Pair], pages: &[u32], search: &mut Search, to: u32) -> Option<u32>
+pub fn first_reaching(
+    candidates: &[u32],
+    live: &[Pair],
+    pages: &[u32],
+    search: &mut Search,
+    to: u32,
+) -> Option<u32>
     requires live_rising { AreRising live.now }
     requires rising { IsRising pages.now }
     requires ends { (a b : ℕ) → has_pair live.now a b ≡ true → holds pages.now b ≡ true }
@@ -196,7 +202,13 @@ pub fn first_reaching(candidates: &[u32], live: &[Pair], pages: &[u32], search: 
 }
 
 // Goes on from one page to the next, over what was reached from those before.
-fn try_each(candidates: &[u32], live: &[Pair], pages: &[u32], search: &mut Search, to: u32) -> Option<u32>
+fn try_each(
+    candidates: &[u32],
+    live: &[Pair],
+    pages: &[u32],
+    search: &mut Search,
+    to: u32,
+) -> Option<u32>
     requires live_rising { AreRising live.now }
     requires rising { IsRising pages.now }
     requires ends { (a b : ℕ) → has_pair live.now a b ≡ true → holds pages.now b ≡ true }

@@ -5,6 +5,7 @@ use std::process::Abort;
 const PAGES: usize = 5;
 
 type Row = [bool; PAGES];
+
 type Table = [Row; PAGES];
 
 // Pages below `PAGES` with their marks, and the edges between them.
@@ -325,50 +326,60 @@ fn run(rt: &(impl Abort + AllocGlobal), steps: &[Step]) -> Result<(), NoMemory> 
 
 #[test]
 fn chain_and_cycles(rt: HostRuntime) -> Result<(), NoMemory> {
-    run(&rt, &[
-        Step::Enter(3),
-        Step::Enter(1),
-        Step::Enter(4),
-        Step::Live(3, 1),
-        Step::Live(1, 4),
-        Step::Live(4, 3),
-        Step::Live(1, 1),
-        Step::Live(3, 4),
-        Step::Live(2, 3),
-        Step::Write(1),
-        Step::Write(3),
-        Step::Fix,
-        Step::Write(1),
-        Step::Fix,
-        Step::Write(4),
-        Step::Fix,
-    ])
+    run(
+        &rt,
+        &[
+            Step::Enter(3),
+            Step::Enter(1),
+            Step::Enter(4),
+            Step::Live(3, 1),
+            Step::Live(1, 4),
+            Step::Live(4, 3),
+            Step::Live(1, 1),
+            Step::Live(3, 4),
+            Step::Live(2, 3),
+            Step::Write(1),
+            Step::Write(3),
+            Step::Fix,
+            Step::Write(1),
+            Step::Fix,
+            Step::Write(4),
+            Step::Fix,
+        ],
+    )
 }
 
 #[test]
 fn dirty_and_hung(rt: HostRuntime) -> Result<(), NoMemory> {
-    run(&rt, &[
-        Step::Enter(0),
-        Step::Enter(2),
-        Step::Live(0, 2),
-        Step::Write(0),
-        Step::Enter(0),
-        Step::Live(0, 2),
-        Step::Barrier(0, 4),
-        Step::Enter(4),
-        Step::Barrier(0, 4),
-        Step::Write(0),
-        Step::Enter(0),
-        Step::Live(0, 4),
-        Step::Fix,
-        Step::Drop(2),
-        Step::Drop(4),
-        Step::Drop(0),
-        Step::Drop(4),
-    ])
+    run(
+        &rt,
+        &[
+            Step::Enter(0),
+            Step::Enter(2),
+            Step::Live(0, 2),
+            Step::Write(0),
+            Step::Enter(0),
+            Step::Live(0, 2),
+            Step::Barrier(0, 4),
+            Step::Enter(4),
+            Step::Barrier(0, 4),
+            Step::Write(0),
+            Step::Enter(0),
+            Step::Live(0, 4),
+            Step::Fix,
+            Step::Drop(2),
+            Step::Drop(4),
+            Step::Drop(0),
+            Step::Drop(4),
+        ],
+    )
 }
 
-fn build(rt: &(impl Abort + AllocGlobal), pages: &[u32], edges: &[(u32, u32)]) -> Result<Graph, NoMemory> {
+fn build(
+    rt: &(impl Abort + AllocGlobal),
+    pages: &[u32],
+    edges: &[(u32, u32)],
+) -> Result<Graph, NoMemory> {
     let mut graph = Graph::new(rt.alloc());
     for page in pages {
         enter(&mut graph, *page)?;

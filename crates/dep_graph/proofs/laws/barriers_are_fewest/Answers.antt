@@ -1,4 +1,4 @@
-use Rattle.std.proofs.Common.{◌≡◌, ◌≤◌, arith}
+use Rattle.std.proofs.Common.{arith}
 use Rattle.dep_graph.proofs.WaveLemmas.{fewest_barriers, level_is_one, waves_are, written_once}
 use Rattle.dep_graph.proofs.laws.barriers_are_fewest.Goals as goal
 

@@ -1,4 +1,4 @@
-use Rattle.std.proofs.Common.{◌≡◌, ◌⊎◌, ◌∙◌, ◌||◌, ◌&&◌, ◌+◌, ◌<◌, ◌≤◌, inl, inr, ap, refl, sym, subst, eqb, eq-eqb, ℕ, Bool, true, false, List, [], max, length, take, get_or, cond, filter, not, arith}
+use Rattle.std.proofs.Common.{◌≡◌, ◌∙◌, ◌||◌, ◌&&◌, ◌+◌, ◌<◌, inl, ap, refl, sym, subst, eqb, eq-eqb, ℕ, true, false, List, max, length, take, get_or, cond, arith}
 use Rattle.std.specs.List.{list_any}
 use Rattle.std.proofs.lemmas.List.{take_all}
 use Rattle.dep_graph.specs.declared.pairs.Pair.{Pair}
@@ -6,7 +6,6 @@ use Rattle.dep_graph.specs.Pages.{holds, IsAt}
 use Rattle.dep_graph.specs.Pairs.{ends_at, from_page, has_pair}
 use Rattle.dep_graph.specs.Trails.{seen}
 use Rattle.dep_graph.specs.Waits.{count_at}
-use Rattle.dep_graph.proofs.GraphLemmas.{ends_parts}
 use Rattle.dep_graph.proofs.LevelLemmas.{all_done, before_all, ends_none_done, ends_undone_le, next_above, next_grows, next_is, next_left, next_low, next_queued, not_before, read_num, seen_next}
 use Rattle.dep_graph.proofs.RisingLemmas.{any_at}
 use Rattle.dep_graph.proofs.SearchLemmas.{after_from, seen_at}
@@ -94,23 +93,23 @@ loop-head-preserved c =
     let i = c.loop-head.invariant in
     record {
       left = next_left c.args.live.now (holds c.args.pages.now) (seen c.args.pages.now (take c.loop-head.head c.loop-head.search.reached)) (seen c.args.pages.now (take (c.loop-head.head + 1) c.relax_each.new.search.reached)) (seen c.args.pages.now c.loop-head.search.reached) (seen c.args.pages.now c.relax_each.new.search.reached)
-    (count_at c.args.pages.now c.args.level.now.items) (count_at c.args.pages.now c.loop-head.level.items) (count_at c.args.pages.now c.relax_each.new.level.items) (count_at c.args.pages.now c.loop-head.left.items) (count_at c.args.pages.now c.relax_each.new.left.items)
-    (get_or c.args.pages.now c.place-place.result 0) c.loop-head.head c.requires.ends (adds c) (fresh c) (taken c) (λ p. before_all c.args.pages.now c.loop-head.search.reached c.loop-head.head p) c.loop-head.invariant.left (left_is c) (height_is c) c.loop-head.invariant.reached (queued_is c);
+          (count_at c.args.pages.now c.args.level.now.items) (count_at c.args.pages.now c.loop-head.level.items) (count_at c.args.pages.now c.relax_each.new.level.items) (count_at c.args.pages.now c.loop-head.left.items) (count_at c.args.pages.now c.relax_each.new.left.items)
+          (get_or c.args.pages.now c.place-place.result 0) c.loop-head.head c.requires.ends (adds c) (fresh c) (taken c) (λ p. before_all c.args.pages.now c.loop-head.search.reached c.loop-head.head p) c.loop-head.invariant.left (left_is c) (height_is c) c.loop-head.invariant.reached (queued_is c);
       reached = next_queued c.args.live.now (holds c.args.pages.now) (seen c.args.pages.now (take c.loop-head.head c.loop-head.search.reached)) (seen c.args.pages.now (take (c.loop-head.head + 1) c.relax_each.new.search.reached)) (seen c.args.pages.now c.loop-head.search.reached) (seen c.args.pages.now c.relax_each.new.search.reached)
-    (count_at c.args.pages.now c.args.level.now.items) (count_at c.args.pages.now c.loop-head.level.items) (count_at c.args.pages.now c.relax_each.new.level.items) (count_at c.args.pages.now c.loop-head.left.items) (count_at c.args.pages.now c.relax_each.new.left.items)
-    (get_or c.args.pages.now c.place-place.result 0) c.loop-head.head c.requires.ends (adds c) (fresh c) (taken c) (λ p. before_all c.args.pages.now c.loop-head.search.reached c.loop-head.head p) c.loop-head.invariant.left (left_is c) (height_is c) c.loop-head.invariant.reached (queued_is c);
+          (count_at c.args.pages.now c.args.level.now.items) (count_at c.args.pages.now c.loop-head.level.items) (count_at c.args.pages.now c.relax_each.new.level.items) (count_at c.args.pages.now c.loop-head.left.items) (count_at c.args.pages.now c.relax_each.new.left.items)
+          (get_or c.args.pages.now c.place-place.result 0) c.loop-head.head c.requires.ends (adds c) (fresh c) (taken c) (λ p. before_all c.args.pages.now c.loop-head.search.reached c.loop-head.head p) c.loop-head.invariant.left (left_is c) (height_is c) c.loop-head.invariant.reached (queued_is c);
       above = next_above c.args.live.now (holds c.args.pages.now) (seen c.args.pages.now (take c.loop-head.head c.loop-head.search.reached)) (seen c.args.pages.now (take (c.loop-head.head + 1) c.relax_each.new.search.reached)) (seen c.args.pages.now c.loop-head.search.reached) (seen c.args.pages.now c.relax_each.new.search.reached)
-    (count_at c.args.pages.now c.args.level.now.items) (count_at c.args.pages.now c.loop-head.level.items) (count_at c.args.pages.now c.relax_each.new.level.items) (count_at c.args.pages.now c.loop-head.left.items) (count_at c.args.pages.now c.relax_each.new.left.items)
-    (get_or c.args.pages.now c.place-place.result 0) c.loop-head.head c.requires.ends (adds c) (fresh c) (taken c) (λ p. before_all c.args.pages.now c.loop-head.search.reached c.loop-head.head p) c.loop-head.invariant.left (left_is c) (height_is c) c.loop-head.invariant.reached (queued_is c) i.above;
+          (count_at c.args.pages.now c.args.level.now.items) (count_at c.args.pages.now c.loop-head.level.items) (count_at c.args.pages.now c.relax_each.new.level.items) (count_at c.args.pages.now c.loop-head.left.items) (count_at c.args.pages.now c.relax_each.new.left.items)
+          (get_or c.args.pages.now c.place-place.result 0) c.loop-head.head c.requires.ends (adds c) (fresh c) (taken c) (λ p. before_all c.args.pages.now c.loop-head.search.reached c.loop-head.head p) c.loop-head.invariant.left (left_is c) (height_is c) c.loop-head.invariant.reached (queued_is c) i.above;
       is = next_is c.args.live.now (holds c.args.pages.now) (seen c.args.pages.now (take c.loop-head.head c.loop-head.search.reached)) (seen c.args.pages.now (take (c.loop-head.head + 1) c.relax_each.new.search.reached)) (seen c.args.pages.now c.loop-head.search.reached) (seen c.args.pages.now c.relax_each.new.search.reached)
-    (count_at c.args.pages.now c.args.level.now.items) (count_at c.args.pages.now c.loop-head.level.items) (count_at c.args.pages.now c.relax_each.new.level.items) (count_at c.args.pages.now c.loop-head.left.items) (count_at c.args.pages.now c.relax_each.new.left.items)
-    (get_or c.args.pages.now c.place-place.result 0) c.loop-head.head c.requires.ends (adds c) (fresh c) (taken c) (λ p. before_all c.args.pages.now c.loop-head.search.reached c.loop-head.head p) c.loop-head.invariant.left (left_is c) (height_is c) c.loop-head.invariant.reached (queued_is c) i.is;
+          (count_at c.args.pages.now c.args.level.now.items) (count_at c.args.pages.now c.loop-head.level.items) (count_at c.args.pages.now c.relax_each.new.level.items) (count_at c.args.pages.now c.loop-head.left.items) (count_at c.args.pages.now c.relax_each.new.left.items)
+          (get_or c.args.pages.now c.place-place.result 0) c.loop-head.head c.requires.ends (adds c) (fresh c) (taken c) (λ p. before_all c.args.pages.now c.loop-head.search.reached c.loop-head.head p) c.loop-head.invariant.left (left_is c) (height_is c) c.loop-head.invariant.reached (queued_is c) i.is;
       grows = next_grows c.args.live.now (holds c.args.pages.now) (seen c.args.pages.now (take c.loop-head.head c.loop-head.search.reached)) (seen c.args.pages.now (take (c.loop-head.head + 1) c.relax_each.new.search.reached)) (seen c.args.pages.now c.loop-head.search.reached) (seen c.args.pages.now c.relax_each.new.search.reached)
-    (count_at c.args.pages.now c.args.level.now.items) (count_at c.args.pages.now c.loop-head.level.items) (count_at c.args.pages.now c.relax_each.new.level.items) (count_at c.args.pages.now c.loop-head.left.items) (count_at c.args.pages.now c.relax_each.new.left.items)
-    (get_or c.args.pages.now c.place-place.result 0) c.loop-head.head c.requires.ends (adds c) (fresh c) (taken c) (λ p. before_all c.args.pages.now c.loop-head.search.reached c.loop-head.head p) c.loop-head.invariant.left (left_is c) (height_is c) c.loop-head.invariant.reached (queued_is c) i.grows;
+          (count_at c.args.pages.now c.args.level.now.items) (count_at c.args.pages.now c.loop-head.level.items) (count_at c.args.pages.now c.relax_each.new.level.items) (count_at c.args.pages.now c.loop-head.left.items) (count_at c.args.pages.now c.relax_each.new.left.items)
+          (get_or c.args.pages.now c.place-place.result 0) c.loop-head.head c.requires.ends (adds c) (fresh c) (taken c) (λ p. before_all c.args.pages.now c.loop-head.search.reached c.loop-head.head p) c.loop-head.invariant.left (left_is c) (height_is c) c.loop-head.invariant.reached (queued_is c) i.grows;
       low = next_low c.args.live.now (holds c.args.pages.now) (seen c.args.pages.now (take c.loop-head.head c.loop-head.search.reached)) (seen c.args.pages.now (take (c.loop-head.head + 1) c.relax_each.new.search.reached)) (seen c.args.pages.now c.loop-head.search.reached) (seen c.args.pages.now c.relax_each.new.search.reached)
-    (count_at c.args.pages.now c.args.level.now.items) (count_at c.args.pages.now c.loop-head.level.items) (count_at c.args.pages.now c.relax_each.new.level.items) (count_at c.args.pages.now c.loop-head.left.items) (count_at c.args.pages.now c.relax_each.new.left.items)
-    (get_or c.args.pages.now c.place-place.result 0) c.loop-head.head c.requires.ends (adds c) (fresh c) (taken c) (λ p. before_all c.args.pages.now c.loop-head.search.reached c.loop-head.head p) c.loop-head.invariant.left (left_is c) (height_is c) c.loop-head.invariant.reached (queued_is c) i.low;
+          (count_at c.args.pages.now c.args.level.now.items) (count_at c.args.pages.now c.loop-head.level.items) (count_at c.args.pages.now c.relax_each.new.level.items) (count_at c.args.pages.now c.loop-head.left.items) (count_at c.args.pages.now c.relax_each.new.left.items)
+          (get_or c.args.pages.now c.place-place.result 0) c.loop-head.head c.requires.ends (adds c) (fresh c) (taken c) (λ p. before_all c.args.pages.now c.loop-head.search.reached c.loop-head.head p) c.loop-head.invariant.left (left_is c) (height_is c) c.loop-head.invariant.reached (queued_is c) i.low;
       head_within = omega (arith, lt_is c, c.relax_each.ensures.grows);
       within = c.relax_each.ensures.within;
       apart = c.relax_each.ensures.apart;
@@ -127,4 +126,4 @@ returns-clause-above c =
     let all = take_all c.loop-head.head c.loop-head.search.reached (omega (arith, c.loop-head-test.false, c.len.ensures.len)) in
     let done : (p : ℕ) → seen c.args.pages.now (take c.loop-head.head c.loop-head.search.reached) p ≡ holds c.args.pages.now p && eqb (count_at c.args.pages.now c.loop-head.left.items p) 0 = λ p. rw all (i.reached p) in
     λ a b edge. i.above a b (all_done c.args.live.now c.args.pages.now (seen c.args.pages.now (take c.loop-head.head c.loop-head.search.reached)) (count_at c.args.pages.now c.loop-head.left.items) c.requires.acyclic
-        (λ x y e. (c.requires.ends x y e).0) i.left done a (c.requires.ends a b edge).0) edge
+    (λ x y e. (c.requires.ends x y e).0) i.left done a (c.requires.ends a b edge).0) edge

@@ -1,11 +1,10 @@
-use Rattle.std.proofs.Common.{◌≡◌, ◌∙◌, ◌+◌, ◌<◌, ap, refl, sym, cond, eqb, ℕ, Bool, true, false, get_or, take, length, arith}
+use Rattle.std.proofs.Common.{◌≡◌, ◌∙◌, ◌+◌, refl, cond, eqb, ℕ, Bool, true, false, get_or, take, arith}
 use Rattle.std.proofs.lemmas.List.{length-set, take_all}
 use Rattle.dep_graph.specs.declared.pairs.Pair.{Pair}
 use Rattle.dep_graph.specs.Pairs.{ends_at}
-use Rattle.dep_graph.specs.Waits.{count_at}
 use Rattle.dep_graph.proofs.GraphLemmas.{ends_le}
 use Rattle.dep_graph.proofs.LevelLemmas.{changed_num, raised_ends, read_num}
-use Rattle.dep_graph.proofs.MoveLemmas.{ends_more, ends_within}
+use Rattle.dep_graph.proofs.MoveLemmas.{ends_more}
 use Rattle.dep_graph.proofs.levels.count_edges.Goals as goal
 
 pub loop-pair-init : goal.loop-pair-init
@@ -29,7 +28,7 @@ loop-pair-preserved c =
       counts = λ x.
           changed_num c.args.pages.now c.loop-pair.left.items c.position_of-at.result p.after c.index_mut.result.now c.requires.rising c.loop-pair.invariant.each c.position_of-at.ensures c.index_mut.ensures.value (λ n. n + 1) x
           ∙ (let more = ends_more c.args.live.now c.loop-pair.pair-index (record { before = 0; after = 0 }) x c.loop-pair-test.true in
-            rw (c.loop-pair.invariant.counts x, more) (up (eqb x p.after) (ends_at (take c.loop-pair.pair-index c.args.live.now) x)));
+          rw (c.loop-pair.invariant.counts x, more) (up (eqb x p.after) (ends_at (take c.loop-pair.pair-index c.args.live.now) x)));
       room = c.loop-pair.invariant.room;
     }
   where

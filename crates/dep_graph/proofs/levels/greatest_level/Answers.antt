@@ -1,8 +1,7 @@
-use Rattle.std.proofs.Common.{◌≡◌, ◌⊎◌, ◌∙◌, ◌<◌, ◌≤◌, ap, sym, subst, eqb, ℕ, List, Bool, true, false, refl, length, get_or, cond, arith}
+use Rattle.std.proofs.Common.{◌≡◌, ◌⊎◌, ◌∙◌, ◌<◌, ◌≤◌, ap, subst, eqb, ℕ, List, Bool, true, false, refl, length, get_or, cond, arith}
 use Rattle.std.specs.List.{list_any}
 use Rattle.dep_graph.specs.declared.pairs.Pair.{Pair}
 use Rattle.dep_graph.specs.Pages.{holds}
-use Rattle.dep_graph.specs.Waits.{count_at}
 use Rattle.dep_graph.proofs.LevelLemmas.{climbed, count_filled, pair_at}
 use Rattle.dep_graph.proofs.levels.greatest_level.Goals as goal
 
@@ -33,7 +32,7 @@ climb-requires-clause-low c = λ p.
 pub returns-clause-levels : goal.returns-clause-levels
 returns-clause-levels c =
     climbed c.args.live.now c.args.barred.now c.args.pages.now c.lift_barred.new.level.items c.climb.new.level.items c.greatest_of.result c.requires.rising c.climb.ensures.level_each
-        (λ p. c.lift_barred.ensures.levels p ∙ ap (λ n. cond (list_any (λ (e : Pair). eqb e.after p) c.args.barred.now) 2 n) (count_filled c.args.pages.now c.fill-2.new.items.items 1 p c.fill-2.ensures.len c.fill-2.ensures.value))
-        c.climb.ensures.above c.climb.ensures.is c.climb.ensures.grows
-        (subst (λ (l : List ℕ). (k : ℕ) → k < length l → get_or l k 0 ≤ c.greatest_of.result) c.deref-2.ensures.value c.greatest_of.ensures.most)
-        (subst (λ (l : List ℕ). ((c.greatest_of.result ≡ 0) × (length l ≡ 0)) ⊎ ((k : ℕ) × ((k < length l) × (get_or l k 0 ≡ c.greatest_of.result)))) c.deref-2.ensures.value c.greatest_of.ensures.reached)
+    (λ p. c.lift_barred.ensures.levels p ∙ ap (λ n. cond (list_any (λ (e : Pair). eqb e.after p) c.args.barred.now) 2 n) (count_filled c.args.pages.now c.fill-2.new.items.items 1 p c.fill-2.ensures.len c.fill-2.ensures.value))
+    c.climb.ensures.above c.climb.ensures.is c.climb.ensures.grows
+    (subst (λ (l : List ℕ). (k : ℕ) → k < length l → get_or l k 0 ≤ c.greatest_of.result) c.deref-2.ensures.value c.greatest_of.ensures.most)
+    (subst (λ (l : List ℕ). ((c.greatest_of.result ≡ 0) × (length l ≡ 0)) ⊎ ((k : ℕ) × ((k < length l) × (get_or l k 0 ≡ c.greatest_of.result)))) c.deref-2.ensures.value c.greatest_of.ensures.reached)

@@ -1,4 +1,4 @@
-use Rattle.std.proofs.Common.{◌≡◌, ◌∙◌, ◌||◌, ap, refl, sym, cond, eqb, ℕ, Bool, true, false, get_or, take, length, arith}
+use Rattle.std.proofs.Common.{◌≡◌, ◌∙◌, ◌||◌, refl, cond, eqb, ℕ, Bool, true, false, get_or, take, arith}
 use Rattle.std.specs.List.{list_any}
 use Rattle.std.proofs.lemmas.List.{length-set, take_all}
 use Rattle.dep_graph.specs.declared.pairs.Pair.{Pair}
@@ -16,7 +16,7 @@ loop-pair-preserved c =
       levels = λ x.
           set_count c.args.pages.now c.loop-pair.level.items c.position_of-at.result p.after 2 x c.requires.rising c.loop-pair.invariant.each c.position_of-at.ensures
           ∙ (let more = any_more (λ (e : Pair). eqb e.after x) c.args.barred.now c.loop-pair.pair-index (record { before = 0; after = 0 }) c.loop-pair-test.true in
-            rw (c.loop-pair.invariant.levels x, more, flip x p.after) (up (eqb p.after x) (list_any (λ (e : Pair). eqb e.after x) (take c.loop-pair.pair-index c.args.barred.now)) (count_at c.args.pages.now c.args.level.now.items x)));
+          rw (c.loop-pair.invariant.levels x, more, flip x p.after) (up (eqb p.after x) (list_any (λ (e : Pair). eqb e.after x) (take c.loop-pair.pair-index c.args.barred.now)) (count_at c.args.pages.now c.args.level.now.items x)));
       room = c.loop-pair.invariant.room;
     }
   where

@@ -18,7 +18,7 @@ loop-place-preserved c =
       reached = λ x.
           free_seen c.args.pages.now c.loop-place.search.reached c.visit_free.new.search.reached c.loop-place.place page count refl c.visit_free.ensures.reached x
           ∙ rw (c.loop-place.invariant.reached x, any_more (λ p. eqb p x) c.args.pages.now c.loop-place.place 0 lt)
-              (join (holds (take c.loop-place.place c.args.pages.now) x) x page (λ y. eqb (count_at c.args.pages.now c.args.left.now y) 0) (eqb count 0) (ap (λ n. eqb n 0) (sym is)));
+          (join (holds (take c.loop-place.place c.args.pages.now) x) x page (λ y. eqb (count_at c.args.pages.now c.args.left.now y) 0) (eqb count 0) (ap (λ n. eqb n 0) (sym is)));
       within = free_within c.args.pages.now c.loop-place.search.reached c.visit_free.new.search.reached c.loop-place.place page count refl c.visit_free.ensures.reached (length c.args.pages.now) lt c.loop-place.invariant.within;
       apart = free_apart c.args.pages.now c.loop-place.search.reached c.visit_free.new.search.reached c.loop-place.place page count refl c.visit_free.ensures.reached c.loop-place.invariant.apart;
       room = c.visit_free.ensures.room ∙ c.loop-place.invariant.room;

@@ -1,4 +1,4 @@
-use Rattle.std.proofs.Common.{◌≡◌, ◌∙◌, ◌||◌, ◌&&◌, ◌-◌, ◌≤◌, ap, refl, sym, eqb, eq-eqb, ne_eqb, ℕ, Bool, inl, inr, max, set, length, cond, arith}
+use Rattle.std.proofs.Common.{◌≡◌, ◌∙◌, ◌||◌, ◌&&◌, ◌-◌, ap, refl, sym, eqb, eq-eqb, ne_eqb, ℕ, inl, inr, max, length, cond, arith}
 use Rattle.std.proofs.lemmas.Bool.{cases_eq}
 use Rattle.dep_graph.specs.Trails.{seen}
 use Rattle.dep_graph.specs.Waits.{count_at}

@@ -1,4 +1,4 @@
-use Rattle.std.proofs.Common.{◌≡◌, sym, ap, ◌∙◌, ℕ, ◌+◌, arith, List}
+use Rattle.std.proofs.Common.{sym, ap, ◌∙◌, ℕ, arith, List}
 use Rattle.dep_graph.specs.declared.pairs.Pair.{Pair}
 use Rattle.dep_graph.specs.Pairs.{has_pair, ends_at}
 use Rattle.dep_graph.specs.Waits.{waits_for}

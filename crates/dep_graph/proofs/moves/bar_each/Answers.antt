@@ -1,8 +1,7 @@
-use Rattle.std.proofs.Common.{◌≡◌, ◌≤◌, ◌||◌, Bool, false, refl, sym, ◌∙◌, ap, ◌+◌, ◌<◌, length, take, get_or, arith, ℕ, List, eqb, ◌&&◌, vec_capacity}
+use Rattle.std.proofs.Common.{◌≡◌, ◌||◌, Bool, false, refl, ◌∙◌, ap, length, get_or, arith}
 use Rattle.std.proofs.lemmas.List.{take_all}
 use Rattle.dep_graph.specs.declared.pairs.Pair.{Pair}
-use Rattle.dep_graph.specs.Pairs.{has_pair, ends_at, AreRising}
-use Rattle.dep_graph.specs.Waits.{waits_for}
+use Rattle.dep_graph.specs.Pairs.{has_pair, ends_at}
 use Rattle.dep_graph.proofs.MoveLemmas.{ends_next, ends_one_more, has_more}
 use Rattle.dep_graph.proofs.moves.bar_each.Goals as goal
 

@@ -1,4 +1,4 @@
-use Rattle.std.proofs.Common.{◌≡◌, ◌+◌, ◌<◌, refl, ◌∙◌, ap, length, get_or, arith, ℕ}
+use Rattle.std.proofs.Common.{refl, ◌∙◌, ap, length, get_or, arith, ℕ}
 use Rattle.std.proofs.lemmas.List.{take_all}
 use Rattle.dep_graph.specs.declared.pairs.Pair.{Pair}
 use Rattle.dep_graph.specs.Pairs.{ends_at}
@@ -30,7 +30,7 @@ loop-pair-preserved c = record {
       let all = c.requires.some p.after in
       let now = c.loop-pair.invariant.counts p.after in
       lowered b p.after (waits_for c.loop-pair.dirty b) (waits_for c.loop-pair.dirty p.after) _ _ _ _ (ap (λ (x : ℕ). waits_for c.loop-pair.dirty x)) (omega arith) (c.lower.ensures.counts b) (c.loop-pair.invariant.counts b)
-          (ends_more c.args.gone.now c.loop-pair.pair-index (record { before = 0; after = 0 }) b c.loop-pair-test.true);
+      (ends_more c.args.gone.now c.loop-pair.pair-index (record { before = 0; after = 0 }) b c.loop-pair-test.true);
   room = c.lower.ensures.room ∙ c.loop-pair.invariant.room;
 }
 

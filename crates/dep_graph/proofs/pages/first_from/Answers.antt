@@ -1,4 +1,4 @@
-use Rattle.std.proofs.Common.{◌<◌, arith}
+use Rattle.std.proofs.Common.{arith}
 use Rattle.std.proofs.lemmas.Bool.{cases_lt}
 use Rattle.dep_graph.proofs.PageLemmas.{found, least_from}
 use Rattle.dep_graph.proofs.pages.first_from.Goals as goal

@@ -1,11 +1,9 @@
-use Rattle.std.proofs.Common.{◌≡◌, ◌⊎◌, inl, inr, ◌∙◌, ◌||◌, ◌<◌, ◌≤◌, sym, ap, refl, subst, true, Bool, get_or, ℕ, List, length, eqb, eq-eqb, eqb-true, arith}
+use Rattle.std.proofs.Common.{◌≡◌, inl, inr, ◌∙◌, ◌<◌, sym, ap, refl, subst, true, get_or, ℕ, List, length, eqb, eq-eqb, eqb-true, arith}
 use Rattle.std.proofs.lemmas.Bool.{or_cases, or_left, or_right}
-use Rattle.std.proofs.lemmas.List.{get_or_default}
 use Rattle.std.specs.List.{list_any}
 use Rattle.dep_graph.specs.declared.pairs.Pair.{Pair}
 use Rattle.dep_graph.specs.Pairs.{has_pair}
-use Rattle.dep_graph.specs.Paths.{Closes}
-use Rattle.dep_graph.specs.Trails.{seen, IsClosed}
+use Rattle.dep_graph.specs.Trails.{seen}
 use Rattle.dep_graph.proofs.RisingLemmas.{any_at}
 use Rattle.dep_graph.proofs.SearchLemmas.{after_from, closed_at_end, closes_seen, followed_done, followed_kept, followed_sound, seen_at, seen_visit, visit_within, visit_front, visit_grows}
 use Rattle.dep_graph.proofs.search.explore.Goals as goal

@@ -1,4 +1,4 @@
-use Rattle.std.proofs.Common.{◌≡◌, ◌∙◌, inl, inr, sym, ap, true, false, ℕ, List}
+use Rattle.std.proofs.Common.{◌∙◌, inl, inr, sym, ap, ℕ, List}
 use Rattle.std.proofs.lemmas.Bool.{true≢false}
 use Rattle.dep_graph.specs.Trails.{seen}
 use Rattle.dep_graph.proofs.SearchLemmas.{is_seen}

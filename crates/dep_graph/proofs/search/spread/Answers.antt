@@ -1,5 +1,4 @@
-use Rattle.std.proofs.Common.{◌≡◌, ◌∙◌, ◌||◌, ◌<◌, ◌≤◌, sym, ap, Bool, get_or, ℕ, length, eqb, arith}
-use Rattle.std.specs.List.{list_any}
+use Rattle.std.proofs.Common.{◌≡◌, ◌∙◌, ◌||◌, Bool, get_or, length, eqb, arith}
 use Rattle.dep_graph.specs.declared.pairs.Pair.{Pair}
 use Rattle.dep_graph.specs.Trails.{seen}
 use Rattle.dep_graph.proofs.SearchLemmas.{any_more, seen_visit, visit_within, visit_front, visit_grows}
@@ -15,7 +14,7 @@ loop-pair-preserved c =
       reached = λ x.
           seen_visit c.args.pages.now c.loop-pair.search.reached c.visit.new.self.reached c.position_of.result p.after at.is c.visit.ensures.reached x
           ∙ rw (i.reached x, any_more (λ (q : Pair). eqb q.after x) c.args.out.now c.loop-pair.pair-index (record { before = 0; after = 0 }) c.loop-pair-test.true)
-              (join (seen c.args.pages.now c.args.search.now.reached x) _ _);
+          (join (seen c.args.pages.now c.args.search.now.reached x) _ _);
       within = visit_within c.args.pages.now c.loop-pair.search.reached c.visit.new.self.reached c.position_of.result p.after at.is c.visit.ensures.reached (length c.args.pages.now) at.within i.within;
       front = λ k lt. visit_front c.args.pages.now c.loop-pair.search.reached c.visit.new.self.reached c.position_of.result p.after at.is c.visit.ensures.reached k (let g = i.grows in omega arith) ∙ i.front k lt;
       grows = let g = visit_grows c.args.pages.now c.loop-pair.search.reached c.visit.new.self.reached c.position_of.result p.after at.is c.visit.ensures.reached in omega (arith, i.grows);

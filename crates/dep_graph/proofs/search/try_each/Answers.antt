@@ -1,4 +1,4 @@
-use Rattle.std.proofs.Common.{◌≡◌, ◌∙◌, ◌<◌, inl, inr, sym, ap, refl, true, false, ℕ, List, length, get_or, subst, arith}
+use Rattle.std.proofs.Common.{◌≡◌, ◌∙◌, inl, inr, sym, refl, true, ℕ, get_or, subst, arith}
 use Rattle.std.proofs.lemmas.Bool.{true≢false, cases_lt}
 use Rattle.dep_graph.specs.Trails.{seen}
 use Rattle.dep_graph.proofs.SearchLemmas.{is_seen, closes_seen}
@@ -16,14 +16,22 @@ loop-page-init c = rw c.requires.none (record {
 pub returns-then-is_reached-clause-first : goal.returns-then-is_reached-clause-first
 returns-then-is_reached-clause-first c =
     let i = c.loop-page.invariant in
-    let is = is_seen c.args.pages.now c.explore.new.search.reached c.position_of-place.result c.args.to c.requires.rising c.position_of-place.ensures c.explore.ensures.within in
-    (c.loop-page.page-index, (c.loop-page-test.true, (refl, (
-      elim (c.explore.ensures.sound c.args.to (sym is ∙ sym c.is_reached.ensures ∙ c.if-is_reached.true)) [
-        | inl old ↦ absurd (true≢false (sym old ∙ i.missed))
-        | inr way ↦ way
-      ],
-      λ j lt way. true≢false (sym (closes_seen c.args.live.now c.args.pages.now c.loop-page.search.reached c.args.to (get_or c.args.candidates.now j 0) i.closed (i.tried j lt) way) ∙ i.missed),
-    ))))
+    let is = is_seen c.args.pages.now c.explore.new.search.reached c.position_of-place.result c.args.to c.requires.rising c.position_of-place.ensures c.explore.ensures.within in (
+      c.loop-page.page-index,
+      (
+        c.loop-page-test.true,
+        (
+          refl,
+          (
+            elim (c.explore.ensures.sound c.args.to (sym is ∙ sym c.is_reached.ensures ∙ c.if-is_reached.true)) [
+              | inl old ↦ absurd (true≢false (sym old ∙ i.missed))
+              | inr way ↦ way
+            ],
+            λ j lt way. true≢false (sym (closes_seen c.args.live.now c.args.pages.now c.loop-page.search.reached c.args.to (get_or c.args.candidates.now j 0) i.closed (i.tried j lt) way) ∙ i.missed),
+          ),
+        ),
+      ),
+    )
 
 pub loop-page-preserved : goal.loop-page-preserved
 loop-page-preserved c =

@@ -1,4 +1,4 @@
-use Rattle.std.proofs.Common.{◌≡◌, ℕ, ◌&&◌, not, take, false, slice_index_or, length}
+use Rattle.std.proofs.Common.{◌≡◌, ℕ, ◌&&◌, not, take, false, slice_index_or}
 use Rattle.dep_graph.specs.Pages.{holds}
 use Rattle.dep_graph.proofs.search.unmark.Given as goal
 

@@ -1,13 +1,9 @@
-use Rattle.std.proofs.Common.{◌≡◌, ◌⊎◌, inl, inr, ap, subst, sym, ◌∙◌, Bool, true, false, ◌||◌, ◌&&◌, ◌+◌, ◌-◌, ◌<◌, ◌≤◌, ◌^◌, ℕ, List, length, eqb, arith}
+use Rattle.std.proofs.Common.{◌≡◌, ap, subst, sym, ◌∙◌, true, ◌||◌, ◌&&◌, ◌-◌, ℕ, List, eqb, arith}
 use Rattle.std.proofs.lemmas.Bool.{cond-true, cond-false}
 use Rattle.dep_graph.specs.declared.pairs.Pair.{Pair}
-use Rattle.dep_graph.specs.Pages.{holds}
 use Rattle.dep_graph.specs.Pairs.{has_pair}
-use Rattle.dep_graph.specs.Paths.{Closes}
-use Rattle.dep_graph.specs.Waits.{waits_for}
 use Rattle.dep_graph.specs.Lists.{GraphLists, IsGraph, dirty_in, hung_in, live_in, barred_in}
 use Rattle.dep_graph.proofs.GraphLemmas.{graph_of, live_is, barred_is, ends_le}
-use Rattle.dep_graph.proofs.PathLemmas.{closes_more}
 use Rattle.dep_graph.proofs.MoveLemmas.{is_there}
 use Rattle.dep_graph.proofs.KeptLemmas.{kept_barrier}
 use Rattle.dep_graph.proofs.graph.Graph.add_barrier.Goals as goal

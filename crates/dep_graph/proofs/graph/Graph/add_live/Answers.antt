@@ -1,11 +1,8 @@
-use Rattle.std.proofs.Common.{◌≡◌, ◌⊎◌, inl, inr, ap, subst, sym, ◌∙◌, Bool, true, false, ◌||◌, ◌&&◌, ◌+◌, ◌-◌, ◌<◌, ◌≤◌, ◌^◌, ℕ, List, length, eqb, arith}
+use Rattle.std.proofs.Common.{◌≡◌, ap, subst, sym, ◌∙◌, true, ◌||◌, ◌&&◌, ◌-◌, ℕ, List, eqb, arith}
 use Rattle.std.proofs.lemmas.Bool.{cond-true, cond-false}
 use Rattle.dep_graph.specs.declared.pairs.Pair.{Pair}
-use Rattle.dep_graph.specs.Pages.{holds}
 use Rattle.dep_graph.specs.Pairs.{has_pair}
-use Rattle.dep_graph.specs.Paths.{Closes}
-use Rattle.dep_graph.specs.Waits.{waits_for}
-use Rattle.dep_graph.specs.Lists.{GraphLists, IsGraph, dirty_in, hung_in, live_in, barred_in}
+use Rattle.dep_graph.specs.Lists.{GraphLists, IsGraph, dirty_in, live_in, barred_in}
 use Rattle.dep_graph.proofs.GraphLemmas.{graph_of, live_is, barred_is, ends_le}
 use Rattle.dep_graph.proofs.PathLemmas.{closes_more}
 use Rattle.dep_graph.proofs.MoveLemmas.{is_there}
@@ -45,7 +42,7 @@ invariant_of-self c =
       kept_live c.self.inside.dirty c.self.inside.hung.items c.self.inside.nodes.items c.self.inside.live.items c.self.inside.barred.items c.self.invariant.0 c.args.pair c.raise.new.self c.raise.ensures.pages (ap (λ (g : GraphLists). dirty_in g c.args.pair.after) c.self.view_is ∙ c.requires.after) c.raise.ensures.counts
           c.insert.new.pairs.items c.insert.ensures.rising c.insert.ensures.pairs c.insert.ensures.ends (ap (λ (g : GraphLists). dirty_in g c.args.pair.before) c.self.view_is ∙ c.requires.before)
           (λ closes. c.requires.opens (closes_more (has_pair c.self.inside.live.items) (live_in c.args.self.now) c.args.pair.before c.args.pair.after
-              (λ a b h. sym (ap (λ (g : GraphLists). live_in g a b) c.self.view_is) ∙ live_is c.self.inside.live.items c.self.inside.barred.items a b ∙ h) closes)),
+          (λ a b h. sym (ap (λ (g : GraphLists). live_in g a b) c.self.view_is) ∙ live_is c.self.inside.live.items c.self.inside.barred.items a b ∙ h) closes)),
       record {
         dirty = omega (arith, c.raise.ensures.room, fits.dirty);
         hung = fits.hung;

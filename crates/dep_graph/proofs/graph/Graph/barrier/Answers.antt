@@ -1,9 +1,7 @@
-use Rattle.std.proofs.Common.{◌≡◌, ap, subst, sym, ◌∙◌, [], ◌+◌, ◌<◌, ◌≤◌, ℕ, List, length, arith}
+use Rattle.std.proofs.Common.{ap, sym, ◌∙◌, List, length, arith}
 use Rattle.dep_graph.specs.declared.pairs.Pair.{Pair}
 use Rattle.dep_graph.specs.Pairs.{ends_at, has_pair}
-use Rattle.dep_graph.specs.Waits.{waits_for}
 use Rattle.dep_graph.specs.Lists.{GraphLists, live_in}
-use Rattle.dep_graph.specs.Kept.{IsKept}
 use Rattle.dep_graph.proofs.GraphLemmas.{graph_of, dirty_within, live_is, barred_is}
 use Rattle.dep_graph.proofs.KeptLemmas.{kept_fixed}
 use Rattle.dep_graph.proofs.graph.Graph.barrier.Goals as goal

@@ -1,9 +1,8 @@
-use Rattle.std.proofs.Common.{◌≡◌, ap, subst, sym, ◌∙◌, Bool, true, false, not, ◌||◌, ◌&&◌, ◌+◌, ◌<◌, ◌≤◌, ℕ, List, length, eqb, arith}
+use Rattle.std.proofs.Common.{◌≡◌, ap, subst, sym, ◌∙◌, Bool, not, ◌||◌, ◌&&◌, ℕ, List, length, eqb, arith}
 use Rattle.std.proofs.lemmas.Bool.{and_parts}
 use Rattle.dep_graph.specs.declared.pairs.Pair.{Pair}
 use Rattle.dep_graph.specs.Pages.{holds}
-use Rattle.dep_graph.specs.Pairs.{AreRising, has_pair, ends_at, from_page, not_from_page}
-use Rattle.dep_graph.specs.Waits.{waits_for}
+use Rattle.dep_graph.specs.Pairs.{AreRising, has_pair, ends_at, from_page}
 use Rattle.dep_graph.specs.Lists.{GraphLists, IsGraph, live_in, barred_in, waits_in}
 use Rattle.dep_graph.specs.Kept.{IsKept}
 use Rattle.dep_graph.proofs.GraphLemmas.{graph_of, dirty_within, ends_parts, has_not_from, live_is, barred_is, length_parts, none_leads, none_from}
@@ -26,11 +25,11 @@ pub lower_each-requires-clause-some : goal.lower_each-requires-clause-some
 lower_each-requires-clause-some c =
     let out = c.out_of.ensures ∙ ap (λ (l : List Pair). from_page l c.args.page) c.deref.ensures.value in
     λ b.
-      let parts = ends_parts c.self.inside.live.items c.args.page b in
-      let all = c.self.invariant.0.counts b in
-      let same = c.leave.ensures.counts b in
-      let e = ap (λ (l : List Pair). ends_at l b) out in
-      omega arith
+    let parts = ends_parts c.self.inside.live.items c.args.page b in
+    let all = c.self.invariant.0.counts b in
+    let same = c.leave.ensures.counts b in
+    let e = ap (λ (l : List Pair). ends_at l b) out in
+    omega arith
 
 pub lower_each-requires-clause-room : goal.lower_each-requires-clause-room
 lower_each-requires-clause-room c =
@@ -54,9 +53,9 @@ invariant_of-self c =
     let left = ap length c.remove_out_of.ensures.items in (
       subst (λ (l : List Pair). IsKept c.lower_each.new.dirty c.self.inside.hung.items c.clean.new.nodes.items l c.self.inside.barred.items) (sym c.remove_out_of.ensures.items)
           (kept_drop c.self.inside.dirty c.self.inside.hung.items c.self.inside.nodes.items c.self.inside.live.items c.self.inside.barred.items c.self.invariant.0 c.args.page ready c.lower_each.new.dirty pages c.clean.new.nodes.items
-              (rw c.lower_each.ensures.pages c.leave.ensures.rising) c.clean.ensures.rising (subst AreRising c.remove_out_of.ensures.items c.remove_out_of.ensures.rising)
-              (λ a. c.clean.ensures.nodes a ∙ rw (c.self.invariant.0.node a, pages a, c.deref-2.ensures.value) (node (holds c.self.inside.dirty.pages a) (holds c.self.inside.hung.items a) (eqb a c.args.page)))
-              (λ b. let e = ap (λ (l : List Pair). ends_at l b) out in let same = c.leave.ensures.counts b in let is = c.lower_each.ensures.counts b in omega arith)),
+          (rw c.lower_each.ensures.pages c.leave.ensures.rising) c.clean.ensures.rising (subst AreRising c.remove_out_of.ensures.items c.remove_out_of.ensures.rising)
+          (λ a. c.clean.ensures.nodes a ∙ rw (c.self.invariant.0.node a, pages a, c.deref-2.ensures.value) (node (holds c.self.inside.dirty.pages a) (holds c.self.inside.hung.items a) (eqb a c.args.page)))
+          (λ b. let e = ap (λ (l : List Pair). ends_at l b) out in let same = c.leave.ensures.counts b in let is = c.lower_each.ensures.counts b in omega arith)),
       record {
         dirty = omega (arith, c.clean.ensures.len, c.lower_each.ensures.room, c.leave.ensures.room, fits.dirty);
         hung = omega (arith, c.clean.ensures.len, fits.hung);

@@ -13,4 +13,4 @@ same c a =
 pub returns : goal.returns
 returns c =
     least_same (λ a. (holds c.self.inside.dirty.pages a && eqb (waits_for c.self.inside.dirty a) 0) ≡ true) (λ a. is_ready c.args.self.now a ≡ true) c.args.from c.first_ready.result
-        (λ a h. sym (same c a) ∙ h) (λ a h. same c a ∙ h) c.first_ready.ensures
+    (λ a h. sym (same c a) ∙ h) (λ a h. same c a ∙ h) c.first_ready.ensures

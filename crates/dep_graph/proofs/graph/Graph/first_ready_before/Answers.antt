@@ -1,4 +1,4 @@
-use Rattle.std.proofs.Common.{◌≡◌, ◌⊎◌, ◌∙◌, ◌&&◌, inl, inr, sym, ap, true, false, ℕ, List, length, eqb, subst, arith}
+use Rattle.std.proofs.Common.{◌≡◌, ◌∙◌, ◌&&◌, inl, inr, sym, ap, true, ℕ, List, length, eqb, arith}
 use Rattle.std.proofs.lemmas.Bool.{and_parts, true≢false}
 use Rattle.dep_graph.specs.declared.pairs.Pair.{Pair}
 use Rattle.dep_graph.specs.Pages.{holds}
@@ -33,8 +33,8 @@ ready c a = ready_is c.self.inside.dirty c.self.inside.hung.items c.self.inside.
 pub returns-clause-least : goal.returns-clause-least
 returns-clause-least c =
     least_same (λ page. ((holds c.self.inside.dirty.pages page && eqb (waits_for c.self.inside.dirty page) 0) ≡ true) × Closes (has_pair c.deref.result.now) c.args.target page)
-        (λ page. (is_ready c.args.self.now page ≡ true) × Closes (live_in c.args.self.now) c.args.target page) c.args.from c.first_reaching.result
-        (λ a h. (sym (ready c a) ∙ h.0, closes_more (has_pair c.deref.result.now) (live_in c.args.self.now) c.args.target a (λ x y e. sym (same c x y) ∙ e) h.1))
-        (λ a h. (ready c a ∙ h.0, closes_more (live_in c.args.self.now) (has_pair c.deref.result.now) c.args.target a (λ x y e. same c x y ∙ e) h.1))
-        (least_of_first (λ page. Closes (has_pair c.deref.result.now) c.args.target page) (λ a. holds c.self.inside.dirty.pages a && eqb (waits_for c.self.inside.dirty a) 0) c.ready_from.result.now c.args.from c.first_reaching.result
-            c.ready_from.ensures.rising c.ready_from.ensures.pages c.first_reaching.ensures.first)
+    (λ page. (is_ready c.args.self.now page ≡ true) × Closes (live_in c.args.self.now) c.args.target page) c.args.from c.first_reaching.result
+    (λ a h. (sym (ready c a) ∙ h.0, closes_more (has_pair c.deref.result.now) (live_in c.args.self.now) c.args.target a (λ x y e. sym (same c x y) ∙ e) h.1))
+    (λ a h. (ready c a ∙ h.0, closes_more (live_in c.args.self.now) (has_pair c.deref.result.now) c.args.target a (λ x y e. same c x y ∙ e) h.1))
+    (least_of_first (λ page. Closes (has_pair c.deref.result.now) c.args.target page) (λ a. holds c.self.inside.dirty.pages a && eqb (waits_for c.self.inside.dirty a) 0) c.ready_from.result.now c.args.from c.first_reaching.result
+    c.ready_from.ensures.rising c.ready_from.ensures.pages c.first_reaching.ensures.first)

@@ -1,4 +1,4 @@
-use Rattle.std.proofs.Common.{ap, length, arith}
+use Rattle.std.proofs.Common.{arith}
 use Rattle.dep_graph.proofs.GraphLemmas.{hung_within}
 use Rattle.dep_graph.proofs.graph.Graph.hung.Goals as goal
 

@@ -1,5 +1,5 @@
-use Rattle.std.proofs.Common.{◌≡◌, ap, length, sym, ◌∙◌, arith}
-use Rattle.dep_graph.specs.Lists.{GraphLists, node_count}
+use Rattle.std.proofs.Common.{◌≡◌, ap, length, ◌∙◌, arith}
+use Rattle.dep_graph.specs.Lists.{node_count}
 use Rattle.dep_graph.proofs.GraphLemmas.{nodes_are}
 use Rattle.dep_graph.proofs.graph.Graph.nodes.Goals as goal
 

@@ -1,4 +1,4 @@
-use Rattle.std.proofs.Common.{◌≡◌, ap, ◌∙◌, length, ℕ, false, subst, sym, List, arith}
+use Rattle.std.proofs.Common.{ap, ◌∙◌, arith}
 use Rattle.dep_graph.specs.Trails.{Trail}
 use Rattle.dep_graph.proofs.SearchLemmas.{nothing_marked, none_resized}
 use Rattle.dep_graph.proofs.search.Search.reserve.Goals as goal

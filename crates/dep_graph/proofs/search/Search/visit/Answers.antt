@@ -1,4 +1,4 @@
-use Rattle.std.proofs.Common.{◌≡◌, ◌<◌, ap, true, false, length, get_or, sym, ◌∙◌, arith}
+use Rattle.std.proofs.Common.{◌<◌, ap, true, false, length, sym, ◌∙◌, arith}
 use Rattle.std.proofs.lemmas.List.{length-set, get_or_read}
 use Rattle.dep_graph.specs.Trails.{Trail}
 use Rattle.dep_graph.proofs.SearchLemmas.{marked_lt, marked_more}

@@ -1,5 +1,5 @@
-use Rattle.std.proofs.Common.{◌≡◌, ◌≤◌, ◌<◌, ◌∙◌, ap, sym, ℕ, ◌-◌, List, length, subst, arith}
-use Rattle.dep_graph.specs.Pages.{holds, IsAt}
+use Rattle.std.proofs.Common.{ap, ℕ, ◌-◌, List, length, subst, arith}
+use Rattle.dep_graph.specs.Pages.{IsAt}
 use Rattle.dep_graph.specs.Waits.{Waits, waits_for}
 use Rattle.dep_graph.proofs.PageLemmas.{found}
 use Rattle.dep_graph.proofs.WaitLemmas.{read_is, changed_count, not_ready, ready_room, waits_present, last_lowered, lowered_more}
@@ -33,7 +33,7 @@ pub invariant_of-self : goal.invariant_of-self
 invariant_of-self c =
     let at = subst (λ (l : List ℕ). IsAt l c.args.page c.position_of-at.result) c.deref.ensures.value c.position_of-at.ensures in
     last_lowered c.self.inside.pages.items c.self.inside.counts.items c.self.inside.ready.items c.position_of-at.result c.args.page c.index-count.result.now c.self.invariant at c.index-count.ensures c.if-count-eq1.true
-        _ c.insert.ensures.rising c.insert.ensures.pages
+    _ c.insert.ensures.rising c.insert.ensures.pages
 
 pub invariant_of-self-else-count-eq1 : goal.invariant_of-self-else-count-eq1
 invariant_of-self-else-count-eq1 c =
@@ -41,7 +41,7 @@ invariant_of-self-else-count-eq1 c =
     let is = read_is c.self.inside.pages.items c.self.inside.counts.items c.self.inside.ready.items c.position_of-at.result c.args.page c.index-count.result.now c.self.invariant at c.index-count.ensures in
     let same = ap (λ (w : Waits). waits_for w c.args.page) c.self.view_is in
     lowered_more c.self.inside.pages.items c.self.inside.counts.items c.self.inside.ready.items c.position_of-at.result c.args.page c.index-count.result.now c.self.invariant at c.index-count.ensures
-        (omega (arith, c.requires.some)) c.if-count-eq1.false
+    (omega (arith, c.requires.some)) c.if-count-eq1.false
 
 pub returns-then-count-eq1-clause-counts : goal.returns-then-count-eq1-clause-counts
 returns-then-count-eq1-clause-counts c =

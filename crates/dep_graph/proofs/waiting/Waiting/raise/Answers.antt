@@ -1,4 +1,4 @@
-use Rattle.std.proofs.Common.{◌≡◌, ◌≤◌, ◌<◌, ◌∙◌, ap, sym, ℕ, ◌+◌, List, subst, arith}
+use Rattle.std.proofs.Common.{ap, ℕ, ◌+◌, List, subst, arith}
 use Rattle.dep_graph.specs.Pages.{IsAt}
 use Rattle.dep_graph.specs.Waits.{Waits, waits_for}
 use Rattle.dep_graph.proofs.WaitLemmas.{read_is, changed_count, was_ready, first_raised, raised_again}
@@ -20,7 +20,7 @@ pub invariant_of-self : goal.invariant_of-self
 invariant_of-self c =
     let at = subst (λ (l : List ℕ). IsAt l c.args.page c.position_of-at.result) c.deref.ensures.value c.position_of-at.ensures in
     first_raised c.self.inside.pages.items c.self.inside.counts.items c.self.inside.ready.items c.position_of-at.result c.args.page c.index-count.result.now c.self.invariant at c.index-count.ensures c.if-count-eq0.true
-        _ c.remove.ensures.rising c.remove.ensures.pages
+    _ c.remove.ensures.rising c.remove.ensures.pages
 
 pub invariant_of-self-else-count-eq0 : goal.invariant_of-self-else-count-eq0
 invariant_of-self-else-count-eq0 c =
