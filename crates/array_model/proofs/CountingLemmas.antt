@@ -1,0 +1,62 @@
+-- Laws of counting below a bound.
+use Rattle.std.proofs.Common.{◌≡◌, ◌⊎◌, inl, inr, ⊎_elim, ℕ, zero, suc, ◌+◌, ◌<◌, ◌≤◌, Bool, true, false, if◌then◌else◌, refl, sym, ◌∙◌, ap, arith}
+use Rattle.std.proofs.lemmas.Bool.{cases_lt, cases_eq}
+use Rattle.array_model.specs.Counting.{count_below}
+
+-- a test that passes no more counts no more
+one_by_one : (t u : Bool) → (t ≡ true → u ≡ true) → (if t then 1 else 0) ≤ (if u then 1 else 0)
+one_by_one true true h = omega arith
+one_by_one true false h = absurd (cc (h refl))
+one_by_one false true h = omega arith
+one_by_one false false h = omega arith
+
+pub count_below-more : (t u : ℕ → Bool) (n : ℕ) → ((k : ℕ) → k < n → t k ≡ true → u k ≡ true) → count_below t n ≤ count_below u n
+unfolding count_below
+count_below-more t u zero h = omega arith
+count_below-more t u (suc n) h = omega (arith, one_by_one (t n) (u n) (h n (omega arith)), count_below-more t u n (λ k lt. h k (omega arith)))
+
+-- a test that passes counts one
+one_more : (b : Bool) (n : ℕ) → b ≡ true → (if b then 1 else 0) + n ≡ 1 + n
+one_more true n h = refl
+one_more false n h = cc
+
+no_more : (b : Bool) (n : ℕ) → b ≡ false → (if b then 1 else 0) + n ≡ n
+no_more true n h = cc
+no_more false n h = omega arith
+
+-- a number below the next one is below, or is the last
+below_or_last : (k n : ℕ) → k < suc n → (k < n) ⊎ (k ≡ n)
+below_or_last k n lt = ⊎_elim (λ below. inl below) (λ above. inr (omega arith)) (cases_lt k n)
+
+-- where none is counted, none passes
+pub count_below-none : (t : ℕ → Bool) (n k : ℕ) → count_below t n ≡ 0 → k < n → t k ≡ false
+unfolding count_below
+count_below-none t zero k h lt = absurd (omega arith)
+count_below-none t (suc n) k h lt = ⊎_elim
+    (λ below. count_below-none t n k (omega (arith, h)) below)
+    (λ last. at_last (t n) last refl)
+    (below_or_last k n lt)
+  where
+    at_last : (b : Bool) → k ≡ n → t n ≡ b → t k ≡ false
+    at_last false last e = ap t last ∙ e
+    at_last true last e = absurd (omega (arith, h, one_more (t n) (count_below t n) e))
+
+-- where none passes, none is counted
+pub none_counted : (t : ℕ → Bool) (n : ℕ) → ((k : ℕ) → k < n → t k ≡ false) → count_below t n ≡ 0
+unfolding count_below
+none_counted t zero h = refl
+none_counted t (suc n) h = no_more (t n) (count_below t n) (h n (omega arith)) ∙ none_counted t n (λ k lt. h k (omega arith))
+
+-- where one number alone passes, at most one is counted
+pub count_below-one : (t : ℕ → Bool) (n b : ℕ) → ((k : ℕ) → k < n → t k ≡ true → k ≡ b) → count_below t n ≤ 1
+unfolding count_below
+count_below-one t zero b h = omega arith
+count_below-one t (suc n) b h = by (t n) refl (count_below-one t n b (λ k lt. h k (omega arith)))
+  where
+    by : (v : Bool) → t n ≡ v → count_below t n ≤ 1 → (if t n then 1 else 0) + count_below t n ≤ 1
+    by false e few = omega (arith, no_more (t n) (count_below t n) e, few)
+    by true e few = omega (arith, one_more (t n) (count_below t n) e, none_counted t n (λ k lt. others k lt (t k) refl))
+      where
+        others : (k : ℕ) → k < n → (w : Bool) → t k ≡ w → t k ≡ false
+        others k lt false f = f
+        others k lt true f = absurd (omega (arith, h k (omega arith) f, h n (omega arith) e))

@@ -1,0 +1,23 @@
+-- Counts of a port, and that a failed call is a counted fault.
+use Rattle.std.specs.Prelude.{ℕ, ◌+◌, ◌<◌, ◌≤◌, ◌^◌, min, Result, IsErr}
+use Rattle.std.proofs.Common.{arith, ⊎_elim}
+use Rattle.std.proofs.lemmas.Bool.{cases_lt}
+
+-- a count that rises, and stands still at the end of a `u64`
+abbrev pub raised : ℕ → ℕ → ℕ
+raised count more = min (count + more) 18446744073709551615
+
+-- the count of faults never falls, and an error raises it; a count at its end may stand still
+pub record CountsFault {T E : Type 0} (result : Result T E) (old new : ℕ) : Type 0 where
+  pub never_falls : old ≤ new
+  pub failed : IsErr result → old + 1 < 2 ^ 64 → old < new
+
+-- counted since an earlier moment
+pub counts_since : {T E : Type 0} (result : Result T E) (start old new : ℕ) → start ≤ old → CountsFault result old new → CountsFault result start new
+counts_since result start old new le c = record {
+  never_falls = omega (arith, le, c.never_falls);
+  failed = λ err few. ⊎_elim
+      (λ room. omega (arith, le, c.failed err room))
+      (λ full. omega (arith, few, full, c.never_falls))
+      (cases_lt (old + 1) (2 ^ 64));
+}

@@ -1,0 +1,15 @@
+pub mod Raised
+pub mod Places
+pub mod Steps
+pub mod Puts
+pub mod Lookups
+pub mod Counted
+pub mod Named
+pub mod Settled
+pub mod GoodImages
+pub mod Fresh
+pub mod Left
+pub mod Writes
+pub mod Quiet
+pub mod ReadLemmas
+pub mod FlushLemmas

@@ -1,0 +1,67 @@
+use Rattle.std.proofs.Common.{◌≡◌, ℕ, false, refl, sym, ◌∙◌, ap, subst, arith, Result, Ok, Err, is_err}
+use Rattle.page_device.specs.declared.error.Failed.{Failed}
+use Rattle.page_device.specs.Block.{Block}
+use Rattle.page_device.specs.Meaning.{Meaning}
+use Rattle.array_model.specs.Array.{writes_one}
+use Rattle.dedup_writer.specs.Core.{CoreView}
+use Rattle.dedup_writer.specs.Put.{PutsCounted}
+use Rattle.dedup_writer.specs.Calls.{StoreCall, NamesOne}
+use Rattle.page_layout.specs.Shape.{ShapeView, data_page}
+use Rattle.dedup_writer.proofs.Quiet.{nothing}
+use Rattle.dedup_writer.proofs.Writes.{data_call, count_call, name_call}
+use Rattle.dedup_writer.proofs.store.Store.write.Goals as goal
+
+-- a result that is no error
+is_done : (r : Result Unit Failed) → is_err r ≡ false → r ≡ Ok tt
+is_done (Ok _) h = refl
+is_done (Err _) h = cc
+
+pub returns-then-block-shape-clause-array : goal.returns-then-block-shape-clause-array
+returns-then-block-shape-clause-array g c = λ mode a sf. nothing mode c.args.self.now (g.D.Device.seen c.args.device.now) a (writes_one c.args.block c.args.from.now) sf
+
+pub returns-in_default-clause-array : goal.returns-in_default-clause-array
+returns-in_default-clause-array g c = λ mode a sf.
+    let d = g.D.Device.seen c.args.device.now in
+    let w = writes_one c.args.block c.args.from.now in
+    subst (λ (v : CoreView). StoreCall mode c.args.self.now v d d a a w) (sym c.lowest_free.ensures.same) (nothing mode c.args.self.now d a w sf)
+
+-- a call of a store that finds its free page is one of the store as it was
+puts_of : (found old new : CoreView) (p : ℕ) (content : Block) (r : Result Unit Failed) (d e : Meaning) → found ≡ old → PutsCounted (data_page found.tables.shape p) content r d e found.calls new.calls
+    → PutsCounted (data_page old.tables.shape p) content r d e old.calls new.calls
+puts_of found old new p content r d e same puts = subst (λ (v : CoreView). PutsCounted (data_page v.tables.shape p) content r d e v.calls new.calls) same puts
+
+pub returns-then-is_err-clause-array : goal.returns-then-is_err-clause-array
+returns-then-is_err-clause-array g c = λ mode a sf.
+    let same = c.lowest_free.ensures.same in
+    let f = c.in-Some.ensures in
+    let d = g.D.Device.seen c.args.device.now in
+    let d1 = g.D.Device.seen c.put_data.new.device in
+    data_call mode a c.args.block c.in-Some.p c.args.from.now c.args.self.now d sf (omega (arith, c.if-block-shape.false, ap (λ (sh : ShapeView). sh.blocks) c.shape-2.view_is, ap (λ (sh : ShapeView). sh.blocks) c.shape.ensures)) f.first f.last f.free c.put_data.new.self d1 c.put_data.result
+    (c.put_data.ensures.tables ∙ ap (λ (v : CoreView). v.tables) same)
+    (puts_of c.lowest_free.new.self c.args.self.now c.put_data.new.self c.in-Some.p c.args.from.now c.put_data.result d d1 same c.put_data.ensures.puts)
+
+pub returns-then-is_err-2-clause-array : goal.returns-then-is_err-2-clause-array
+returns-then-is_err-2-clause-array g c = λ mode a sf.
+    let same = c.lowest_free.ensures.same in
+    let f = c.in-Some.ensures in
+    let d = g.D.Device.seen c.args.device.now in
+    let d1 = g.D.Device.seen c.put_data.new.device in
+    count_call mode a c.args.block c.in-Some.p c.args.from.now c.args.self.now d sf (omega (arith, c.if-block-shape.false, ap (λ (sh : ShapeView). sh.blocks) c.shape-2.view_is, ap (λ (sh : ShapeView). sh.blocks) c.shape.ensures)) f.first f.last f.free c.put_data.new.self d1 c.put_data.result
+    (c.put_data.ensures.tables ∙ ap (λ (v : CoreView). v.tables) same)
+    (puts_of c.lowest_free.new.self c.args.self.now c.put_data.new.self c.in-Some.p c.args.from.now c.put_data.result d d1 same c.put_data.ensures.puts)
+    (is_done c.put_data.result (sym c.if-is_err.ensures.value)) c.count_one.new.self (g.D.Device.seen c.count_one.new.device) c.count_one.result c.count_one.ensures.counts
+
+pub returns-clause-array : goal.returns-clause-array
+returns-clause-array g c = λ mode a sf.
+    let same = c.lowest_free.ensures.same in
+    let f = c.in-Some.ensures in
+    let d = g.D.Device.seen c.args.device.now in
+    let d1 = g.D.Device.seen c.put_data.new.device in
+    let d2 = g.D.Device.seen c.count_one.new.device in
+    let d3 = g.D.Device.seen c.name_one.new.device in
+    name_call mode a c.args.block c.in-Some.p c.args.from.now c.args.self.now d sf (omega (arith, c.if-block-shape.false, ap (λ (sh : ShapeView). sh.blocks) c.shape-2.view_is, ap (λ (sh : ShapeView). sh.blocks) c.shape.ensures)) f.first f.last f.free c.put_data.new.self d1 c.put_data.result
+    (c.put_data.ensures.tables ∙ ap (λ (v : CoreView). v.tables) same)
+    (puts_of c.lowest_free.new.self c.args.self.now c.put_data.new.self c.in-Some.p c.args.from.now c.put_data.result d d1 same c.put_data.ensures.puts)
+    (is_done c.put_data.result (sym c.if-is_err.ensures.value)) c.count_one.new.self d2 c.count_one.result c.count_one.ensures.counts
+    (is_done c.count_one.result (sym c.if-is_err-2.ensures.value)) c.name_one.new.self d3
+    (subst (λ (v : CoreView). NamesOne c.args.block c.in-Some.p v c.name_one.new.self d2 d3) c.note_name.ensures c.name_one.ensures.names)

@@ -1,0 +1,48 @@
+-- What a store keeps, as plain data.
+use Rattle.std.specs.Prelude.{◌≡◌, ℕ, ◌+◌, ◌-◌, ◌/◌, ◌<◌, ◌≤◌, ◌^◌, Bool, true, List, length, slice_index_or}
+use Rattle.page_device.specs.Block.{Block}
+use Rattle.page_layout.specs.Numbers.{entry_of}
+use Rattle.page_layout.specs.Shape.{ShapeView, IsValid, map_pages, count_pages, map_place, count_place}
+use Rattle.page_layout.specs.Tables.{page_of}
+
+-- the shape, the cached map and count pages, and which map pages have yet to be written
+pub record CachedTables : Type 0 where
+  pub shape : ShapeView
+  pub maps : List Block
+  pub counts : List Block
+  pub pending : List Bool
+
+-- these, and the device writes and barriers so far
+pub record CoreView : Type 0 where
+  pub tables : CachedTables
+  pub calls : ℕ
+
+-- the map page of a block and the count page of a data page, each counted from 0
+abbrev pub map_index : ℕ → ℕ
+map_index block = block / 1024
+
+abbrev pub count_index : ℕ → ℕ
+count_index p = (p - 1) / 1024
+
+-- the cached map entry of a block, and the cached count of a data page
+abbrev pub cached_map : CachedTables → ℕ → ℕ
+cached_map t block = entry_of (page_of t.maps (map_index block)) (map_place block)
+
+abbrev pub cached_count : CachedTables → ℕ → ℕ
+cached_count t p = entry_of (page_of t.counts (count_index p)) (count_place p)
+
+-- the map page of an index has yet to be written
+abbrev pub is_pending : CachedTables → ℕ → Bool
+is_pending t j = slice_index_or t.pending j true
+
+-- a count of calls rose by so many; it stands still at the end of a `u64`
+pub record CountsCalls (made calls later : ℕ) : Type 0 where
+  pub never_falls : calls ≤ later
+  pub counted : later + 1 < 2 ^ 64 → later ≡ calls + made
+
+-- as many pages as the shape says
+pub record HasPages (t : CachedTables) : Type 0 where
+  pub valid : IsValid t.shape
+  pub maps : length t.maps ≡ map_pages t.shape
+  pub counts : length t.counts ≡ count_pages t.shape
+  pub pending : length t.pending ≡ map_pages t.shape

@@ -1,0 +1,395 @@
+// The store over a device.
+ghost use Rattle.std.specs.Prelude.{◌≡◌, ◌≢◌, ℕ, ◌+◌, ◌-◌, ◌<◌, ◌≤◌, true, false, length, replicate, slice_set, IsOk, IsErr, IfOk, IfErr, OnOk, OnErr, IfSome, IfNone, Some};
+ghost use Rattle.page_device.specs.Block.{zero_block};
+ghost use Rattle.page_device.specs.Disk.{at_rest, newest};
+ghost use Rattle.page_device.specs.Meaning.{Meaning, HasCause};
+ghost use Rattle.page_layout.specs.Numbers.{entry_of};
+ghost use Rattle.page_layout.specs.Shape.{total, map_pages, count_pages, map_place, count_place, data_page};
+ghost use Rattle.page_layout.specs.Tables.{IsFresh, shape_of, page_of};
+ghost use Rattle.dedup_writer.specs.Core.{map_index, count_index};
+ghost use Rattle.dedup_writer.specs.Put.{PutsCounted};
+ghost use Rattle.array_model.specs.Images.{Mode};
+ghost use Rattle.array_model.specs.Array.{BlockArray, array_start, last, writes_nothing, writes_one};
+
+use crate::put::put;
+use page_device::{Damage, Device, Failed, NoMemory, Page};
+use page_layout::{Shape, count_entry, map_entry, set_count_entry, set_map_entry};
+use std::alloc::Global;
+use std::marker::Model;
+
+/// Why a store refuses a call.
+#[derive(Clone, Copy, Debug, PartialEq, Eq, Drop)]
+pub enum Refusal {
+    /// The block is not below the number of blocks.
+    Range,
+    /// The device counted a fault in this call.
+    Device,
+    /// A table page that was read in this call holds this malformed entry.
+    Damaged(Damage),
+    /// No data page is free: `live` of them are counted, `waste` times more than they are named.
+    Full { live: u32, waste: u64 },
+    NoMemory,
+}
+
+/// Blocks over a device.
+///
+/// A store keeps no device: each call is lent the one over which it was opened, and what is promised of
+/// contents is promised over that one. It keeps all map and count pages in memory: 4 bytes a logical
+/// block and 4 bytes a data page.
+#[derive(Drop)]
+pub struct Store {
+    shape: Shape,
+    // The map pages and the count pages, in order.
+    maps: Vec<Page>,
+    counts: Vec<Page>,
+    // Which map pages have yet to be written.
+    pending: Vec<bool>,
+    // Each data page below it is counted.
+    next: u32,
+    // The number of mapped blocks.
+    mapped: u32,
+    // Device writes and barriers so far.
+    calls: u64,
+}
+
+impl Model for Store {
+    ghost use Rattle.dedup_writer.specs.Core.{CoreView};
+    ghost use Rattle.dedup_writer.specs.Whole.{IsWhole};
+
+    ghost Value = { CoreView };
+
+    ghost view = { λ s. record {
+      tables = record { shape = s.shape; maps = s.maps.items; counts = s.counts.items; pending = s.pending.items };
+      calls = s.calls;
+    } };
+
+    ghost invariant = { λ s. IsWhole (record { shape = s.shape; maps = s.maps.items; counts = s.counts.items; pending = s.pending.items }) s.next };
+}
+
+// So many pages of zeros.
+fn zero_pages(alloc: Global, n: u32) -> Result<Vec<Page>, NoMemory>
+    ensures pages { IfOk result (λ pages. pages.items ≡ replicate n zero_block) }
+{
+    let Ok(mut pages) = Vec::with_capacity(alloc, n as usize) else {
+        return Err(NoMemory);
+    };
+    for _ in 0..n {
+        pages.push_reserved(Page::zero());
+    }
+    Ok(pages)
+}
+
+// So many flags that are not set.
+fn no_flags(alloc: Global, n: u32) -> Result<Vec<bool>, NoMemory>
+    ensures flags { IfOk result (λ flags. flags.items ≡ replicate n false) }
+{
+    let Ok(mut flags) = Vec::with_capacity(alloc, n as usize) else {
+        return Err(NoMemory);
+    };
+    for _ in 0..n {
+        flags.push_reserved(false);
+    }
+    Ok(flags)
+}
+
+// The map entry of a block in these map pages.
+fn name_at(shape: &Shape, maps: &[Page], block: u32) -> u32
+    requires block { block < shape.now.blocks }
+    requires pages { length maps.now ≡ map_pages shape.now }
+    ensures { result ≡ entry_of (page_of maps.now (map_index block)) (map_place block) }
+{
+    let (page, entry) = shape.map_place(block);
+    map_entry(&maps[page as usize - 1], entry)
+}
+
+// The count of a data page in these count pages.
+fn count_at(shape: &Shape, counts: &[Page], p: u32) -> u32
+    requires first { 1 ≤ p }
+    requires last { p ≤ shape.now.pages }
+    requires pages { length counts.now ≡ count_pages shape.now }
+    ensures { result ≡ entry_of (page_of counts.now (count_index p)) (count_place p) }
+{
+    let (page, entry) = shape.count_place(p);
+    count_entry(&counts[(page - shape.first_count_page()) as usize], entry)
+}
+
+// The first data page from `next` on that nothing counts, or the number behind the last one.
+fn first_free(shape: &Shape, counts: &[Page], next: u32) -> u32
+    requires first { 1 ≤ next }
+    requires last { next ≤ shape.now.pages + 1 }
+    requires pages { length counts.now ≡ count_pages shape.now }
+    ensures from { next ≤ result }
+    ensures to { result ≤ shape.now.pages + 1 }
+    ensures free { result ≤ shape.now.pages → entry_of (page_of counts.now (count_index result)) (count_place result) ≡ 0 }
+    ensures passed { (p : ℕ) → next ≤ p → p < result → 1 ≤ entry_of (page_of counts.now (count_index p)) (count_place p) }
+{
+    let end = shape.pages + 1;
+    for p in next..end {
+        if count_at(shape, counts, p) == 0 {
+            return p;
+        }
+    }
+    end
+}
+
+impl Store {
+    ghost use Rattle.dedup_writer.specs.Core.{CoreView, cached_map, cached_count, count_index, map_index};
+    ghost use Rattle.dedup_writer.specs.Stands.{StandsFor};
+    ghost use Rattle.dedup_writer.specs.Calls.{StoreCall, after_write, after_flush, WriteCause, ReadCause, IsFull, CountsOne, NamesOne, Settles, AllCounted};
+
+    /// The store over a freshly formatted image of version 1: every table page is zero. Reads nothing.
+    /// Linear in the table pages.
+    pub fn fresh(alloc: Global, shape: Shape) -> Result<Store, NoMemory>
+        requires { shape.version ≡ 1 }
+        ensures shape { IfOk result (λ store. store.tables.shape ≡ shape) }
+        ensures calls { IfOk result (λ store. store.calls ≡ 0) }
+        ensures stands { IfOk result (λ store. (mode : Mode) (d : Meaning) → d.honest ≡ true → d.tells_pages ≡ true → length d.state.fixed ≡ d.pages
+            → IsFresh d.state.fixed → shape_of d.state.fixed ≡ shape → d.state ≡ at_rest d.state.fixed
+            → StandsFor mode store d (array_start d.state.fixed)) }
+    {
+        let _blocks = shape.blocks;
+        let map_pages = shape.first_count_page() - 1;
+        let maps = zero_pages(alloc, map_pages)?;
+        let counts = zero_pages(alloc, shape.count_pages())?;
+        let pending = no_flags(alloc, map_pages)?;
+        Ok(Store {
+            shape,
+            maps,
+            counts,
+            pending,
+            next: 1,
+            mapped: 0,
+            calls: 0,
+        })
+    }
+
+    /// The shape of its image.
+    pub fn shape(&self) -> Shape
+        ensures { result ≡ self.now.tables.shape }
+    {
+        self.shape
+    }
+
+    /// Device writes and barriers since it was opened, failed ones too. Stands still at its end.
+    pub fn calls(&self) -> u64
+        ensures { result ≡ self.now.calls }
+    {
+        self.calls
+    }
+
+    /// Writes a block. A block that was written reads as its new content from then on; after a crash it
+    /// reads that, or what it may have read before, until a flush. After an error it reads as before.
+    ///
+    /// Costs up to six device calls, beside passing data pages that are counted, each once.
+    pub fn write<D: Device>(
+        &mut self,
+        device: &mut D,
+        block: u32,
+        from: &Page,
+    ) -> Result<(), Refusal>
+        requires { total self.old.tables.shape ≤ (D.seen device.old).pages }
+        ensures pages { (D.seen device.new).pages ≡ (D.seen device.old).pages }
+        ensures never_falls { (D.seen device.old).faults ≤ (D.seen device.new).faults }
+        ensures range { self.old.tables.shape.blocks ≤ block → result ≡ Err Refusal.Range }
+        ensures cause { IfErr result (λ why. WriteCause why block self.old (D.seen device.old) (D.seen device.new)) }
+        ensures full { block < self.old.tables.shape.blocks → AllCounted self.old → IfErr result IsFull × IsErr result }
+        ensures shape { self.new.tables.shape ≡ self.old.tables.shape }
+        ensures array { (mode : Mode) (a : BlockArray) → StandsFor mode self.old (D.seen device.old) a
+            → StoreCall mode self.old self.new (D.seen device.old) (D.seen device.new) a (after_write result a block from.now) (writes_one block from.now) }
+    {
+        if block >= self.shape().blocks {
+            return Err(Refusal::Range);
+        }
+        let Some(p) = self.lowest_free() else {
+            return Err(self.full());
+        };
+        if self.put_data(device, p, from).is_err() {
+            return Err(Refusal::Device);
+        }
+        if self.count_one(device, p).is_err() {
+            return Err(Refusal::Device);
+        }
+        self.note_name(block);
+        self.name_one(device, block, p);
+        Ok(())
+    }
+
+    /// Reads a block: zeros where it is not mapped, without a device call. After an error nothing is known
+    /// of `into`. At most one device read.
+    pub fn read<D: Device>(
+        &mut self,
+        device: &mut D,
+        block: u32,
+        into: &mut Page,
+    ) -> Result<(), Refusal>
+        requires { total self.old.tables.shape ≤ (D.seen device.old).pages }
+        ensures pages { (D.seen device.new).pages ≡ (D.seen device.old).pages }
+        ensures never_falls { (D.seen device.old).faults ≤ (D.seen device.new).faults }
+        ensures range { self.old.tables.shape.blocks ≤ block → result ≡ Err Refusal.Range }
+        ensures cause { IfErr result (λ why. ReadCause why block self.old (D.seen device.old) (D.seen device.new)) }
+        ensures same { self.new ≡ self.old }
+        ensures array { (mode : Mode) (a : BlockArray) → StandsFor mode self.old (D.seen device.old) a
+            → StoreCall mode self.old self.new (D.seen device.old) (D.seen device.new) a a writes_nothing }
+        ensures bytes { (mode : Mode) (a : BlockArray) → StandsFor mode self.old (D.seen device.old) a → OnOk result (into.new ≡ last a block) }
+    {
+        if block >= self.shape().blocks {
+            return Err(Refusal::Range);
+        }
+        let p = self.name_of(block);
+        if p == 0 {
+            *into = Page::zero();
+            return Ok(());
+        }
+        let place = self.shape.data_place(p);
+        let Ok(()) = device.read(place, into) else {
+            return Err(Refusal::Device);
+        };
+        Ok(())
+    }
+
+    /// Puts on the device what is pending: after it, each block reads its present content after any crash,
+    /// or one that is written later. Makes no call where nothing is pending, and stops at the first call
+    /// that fails; what is pending then stays so.
+    ///
+    /// Looks at one flag a map page, and writes those that are pending.
+    pub fn flush<D: Device>(&mut self, device: &mut D) -> Result<(), Failed>
+        requires { total self.old.tables.shape ≤ (D.seen device.old).pages }
+        ensures pages { (D.seen device.new).pages ≡ (D.seen device.old).pages }
+        ensures cause { HasCause result (D.seen device.old) (D.seen device.new) }
+        ensures shape { self.new.tables.shape ≡ self.old.tables.shape }
+        ensures array { (mode : Mode) (a : BlockArray) → StandsFor mode self.old (D.seen device.old) a
+            → StoreCall mode self.old self.new (D.seen device.old) (D.seen device.new) a (after_flush result a) writes_nothing }
+    {
+        let map_pages = self.map_pages();
+        for index in 0..map_pages {
+            match self.settle(device, index) {
+                Ok(()) => {}
+                Err(failed) => return Err(failed),
+            }
+        }
+        Ok(())
+    }
+
+    // The number of map pages.
+    fn map_pages(&self) -> u32
+        ensures { result ≡ map_pages self.now.tables.shape }
+    {
+        self.shape.first_count_page() - 1
+    }
+
+    // Writes a map page and fixes it, where it is pending.
+    fn settle<D: Device>(&mut self, device: &mut D, index: u32) -> Result<(), Failed>
+        requires index { index < map_pages self.old.tables.shape }
+        requires room { total self.old.tables.shape ≤ (D.seen device.old).pages }
+        ensures pages { (D.seen device.new).pages ≡ (D.seen device.old).pages }
+        ensures cause { HasCause result (D.seen device.old) (D.seen device.new) }
+        ensures settles { Settles index result self.old self.new (D.seen device.old) (D.seen device.new) }
+    {
+        let at = index as usize;
+        if !self.pending[at] {
+            return Ok(());
+        }
+        match put(device, &mut self.calls, index + 1, &self.maps[at]) {
+            Ok(()) => {
+                self.pending[at] = false;
+                Ok(())
+            }
+            Err(failed) => Err(failed),
+        }
+    }
+
+    // Writes the content of a data page and fixes it.
+    fn put_data<D: Device>(&mut self, device: &mut D, p: u32, from: &Page) -> Result<(), Failed>
+        requires first { 1 ≤ p }
+        requires last { p ≤ self.old.tables.shape.pages }
+        requires room { total self.old.tables.shape ≤ (D.seen device.old).pages }
+        ensures pages { (D.seen device.new).pages ≡ (D.seen device.old).pages }
+        ensures cause { HasCause result (D.seen device.old) (D.seen device.new) }
+        ensures tables { self.new.tables ≡ self.old.tables }
+        ensures puts { PutsCounted (data_page self.old.tables.shape p) from.now result (D.seen device.old) (D.seen device.new) self.old.calls self.new.calls }
+    {
+        let place = self.shape.data_place(p);
+        put(device, &mut self.calls, place, from)
+    }
+
+    // The cached map entry of a block.
+    fn name_of(&self, block: u32) -> u32
+        requires { block < self.now.tables.shape.blocks }
+        ensures name { result ≡ cached_map self.now.tables block }
+        ensures within { result ≤ self.now.tables.shape.pages }
+    {
+        name_at(&self.shape, &self.maps, block)
+    }
+
+    // The lowest data page that nothing counts. Each is passed once: a page that is counted stays so.
+    fn lowest_free(&mut self) -> Option<u32>
+        ensures same { self.new ≡ self.old }
+        ensures first { IfSome result (λ p. 1 ≤ p) }
+        ensures last { IfSome result (λ p. p ≤ self.old.tables.shape.pages) }
+        ensures free { IfSome result (λ p. cached_count self.old.tables p ≡ 0) }
+        ensures none { IfNone result (AllCounted self.old) }
+    {
+        let shape = self.shape;
+        let next = first_free(&shape, &self.counts, self.next);
+        self.next = next;
+        if next > shape.pages {
+            return None;
+        }
+        Some(next)
+    }
+
+    // Why a write finds no data page: each of them is counted, some more often than they are named.
+    fn full(&self) -> Refusal
+        ensures { (waste : ℕ) × (result ≡ Refusal.Full self.now.tables.shape.pages waste) }
+    {
+        Refusal::Full {
+            live: self.shape.pages,
+            waste: u64::from(self.shape.pages.saturating_sub(self.mapped)),
+        }
+    }
+
+    // Counts a data page that nothing counts, in the cache and then on the device. After a fault it stays
+    // counted in the cache.
+    fn count_one<D: Device>(&mut self, device: &mut D, p: u32) -> Result<(), Failed>
+        requires first { 1 ≤ p }
+        requires last { p ≤ self.old.tables.shape.pages }
+        requires free { cached_count self.old.tables p ≡ 0 }
+        requires room { total self.old.tables.shape ≤ (D.seen device.old).pages }
+        ensures pages { (D.seen device.new).pages ≡ (D.seen device.old).pages }
+        ensures cause { HasCause result (D.seen device.old) (D.seen device.new) }
+        ensures counts { CountsOne p result self.old self.new (D.seen device.old) (D.seen device.new) }
+    {
+        let (page, entry) = self.shape.count_place(p);
+        let index = (page - self.shape.first_count_page()) as usize;
+        set_count_entry(&mut self.counts[index], entry, 1);
+        put(device, &mut self.calls, page, &self.counts[index])
+    }
+
+    // Counts a block that is about to take its first name.
+    fn note_name(&mut self, block: u32)
+        requires { block < self.old.tables.shape.blocks }
+        ensures { self.new ≡ self.old }
+    {
+        if self.name_of(block) == 0 {
+            self.mapped = self.mapped.saturating_add(1);
+        }
+    }
+
+    // Gives a block the name of a data page, in the cache and then on the device. A map page that could
+    // not be written stays pending.
+    fn name_one<D: Device>(&mut self, device: &mut D, block: u32, p: u32)
+        requires block { block < self.old.tables.shape.blocks }
+        requires last { p ≤ self.old.tables.shape.pages }
+        requires room { total self.old.tables.shape ≤ (D.seen device.old).pages }
+        ensures pages { (D.seen device.new).pages ≡ (D.seen device.old).pages }
+        ensures never_falls { (D.seen device.old).faults ≤ (D.seen device.new).faults }
+        ensures names { NamesOne block p self.old self.new (D.seen device.old) (D.seen device.new) }
+    {
+        let (page, entry) = self.shape.map_place(block);
+        let index = page as usize - 1;
+        set_map_entry(&mut self.maps[index], entry, p);
+        self.pending[index] = true;
+        let done = put(device, &mut self.calls, page, &self.maps[index]);
+        self.pending[index] = done.is_err();
+    }
+}

@@ -1,0 +1,10 @@
+use Rattle.std.proofs.Common.{◌≡◌, ◌+◌, ◌++◌, replicate, vec_len, vec_capacity}
+use Rattle.page_device.specs.Block.{zero_block}
+use Rattle.page_device.proofs.memory.push_zeros.Given as goal
+
+abbrev pub invariant-loop : goal.invariant-loop
+invariant-loop l = record {
+  items : l.pages.items ≡ l.fn.pages.items ++ replicate l.counter zero_block;
+  len : vec_len l.pages ≡ vec_len l.fn.pages + l.counter;
+  capacity : vec_capacity l.pages ≡ vec_capacity l.fn.pages;
+}

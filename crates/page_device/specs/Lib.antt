@@ -1,0 +1,10 @@
+pub mod Block
+pub mod Disk
+pub mod Meaning
+pub mod Images
+pub mod Possible
+pub mod Moments
+pub mod Runs
+pub mod Memory
+pub mod MemorySeen
+pub mod FileSeen

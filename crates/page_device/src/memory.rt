@@ -1,0 +1,369 @@
+// A device in memory, which tells everything and fails where it is told to.
+ghost use Rattle.std.specs.Prelude.{◌≡◌, ◌+◌, ◌<◌, ◌≤◌, ◌^◌, ◌++◌, ◌∷◌, [], ◌-◌, ◌≢◌, ℕ, max, min, replicate, None, Some, true, length, slice_get, IsOk, IsErr, IsTrue, OnOk, OnErr, vec_len, vec_capacity};
+ghost use Rattle.std.specs.Bool.{OnTrue, OnFalse};
+ghost use Rattle.page_device.specs.Block.{zero_block};
+ghost use Rattle.page_device.specs.Disk.{at_rest, newest, with_room};
+ghost use Rattle.page_device.specs.Memory.{plan_for};
+ghost use Rattle.page_device.specs.Meaning.{HasCause, OneCall, OneRead, IsRefused, WriteEntry, FlushEntry, Grows, IsUntouched};
+
+use crate::log::Log;
+use crate::{Device, End, Failed, LogEntry, NoMemory, Page};
+use std::alloc::Global;
+use std::marker::Model;
+use std::mem;
+
+/// A write or barrier that is to fail: its number, counted from 1.
+#[derive(Clone, Copy, Drop)]
+pub struct Plan {
+    pub call: u64,
+    pub taken: bool,
+}
+
+/// A device in memory. It tells its pages, its log and its reads, and it is honest.
+///
+/// Tests and models stand on it: failures can be planned, and the log shows each call. A call costs
+/// constant time, beside the number of planned failures.
+#[derive(Drop)]
+pub struct MemDevice {
+    // The newest contents.
+    pages: Vec<Page>,
+    // What each taken write replaced, in order.
+    replaced: Vec<Page>,
+    log: Log,
+    // For how many further entries there is room, in `log` and in `replaced`.
+    spare: usize,
+    plans: Vec<Plan>,
+    calls: u64,
+    faults: u64,
+    reads: u64,
+}
+
+impl Model for MemDevice {
+    ghost use Rattle.std.specs.Prelude.{◌+◌, ◌≤◌, vec_len, vec_capacity};
+    ghost use Rattle.page_device.specs.Memory.{MemoryView, IsConsistent, HasSpare, undone, taken_pages};
+
+    ghost Value = { MemoryView };
+
+    ghost view = { λ m. record {
+      start = undone m.pages.items (taken_pages m.log.kept) m.replaced.items;
+      all = m.log.all;
+      kept = m.log.kept;
+      spare = m.spare;
+      plans = m.plans.items;
+      calls = m.calls;
+      faults = m.faults;
+      reads = m.reads;
+    } };
+
+    ghost invariant = { λ m. IsConsistent m.pages.items m.replaced.items m.log.kept m.log.all
+        × HasSpare m.spare m.log.spare (vec_len m.replaced) (vec_capacity m.replaced) };
+}
+
+// What is planned for the call: the latest plan counts.
+fn planned(plans: &[Plan], call: u64) -> Option<bool>
+    ensures { result ≡ plan_for plans.now call }
+{
+    plans
+        .iter()
+        .rev()
+        .find(|plan| plan.call == call)
+        .map(|plan| plan.taken)
+}
+
+// Adds so many pages of zeros, for which there is room.
+fn push_zeros(pages: &mut Vec<Page>, more: usize)
+    requires { vec_len pages.old + more ≤ vec_capacity pages.old }
+    ensures { pages.new.items ≡ pages.old.items ++ replicate more zero_block }
+{
+    for _ in 0..more {
+        pages.push_reserved(Page::zero());
+    }
+}
+
+impl MemDevice {
+    ghost use Rattle.page_device.specs.MemorySeen.{telling, memory_seen};
+    ghost use Rattle.page_device.specs.Memory.{with_entry, lost_call, IsQuiet};
+
+    /// A device that begins with these pages fixed, nothing pending, an empty log and no planned
+    /// failure. Takes no memory.
+    pub fn holding(alloc: Global, pages: Vec<Page>) -> MemDevice
+        requires { length pages.items < 2 ^ 32 }
+        ensures told { memory_seen result ≡ telling (length pages.items) 0 0 (at_rest pages.items) [] }
+        ensures kept { result.kept ≡ [] }
+        ensures plans { result.plans ≡ [] }
+        ensures calls { result.calls ≡ 0 }
+    {
+        MemDevice {
+            pages,
+            replaced: Vec::new(alloc),
+            log: Log::new(alloc),
+            spare: 0,
+            plans: Vec::new(alloc),
+            calls: 0,
+            faults: 0,
+            reads: 0,
+        }
+    }
+
+    /// Makes the write or barrier of this number fail, counted from 1 as `calls` counts. A failing
+    /// write is taken where `taken` is true; a failing barrier changes nothing. Of two plans for one
+    /// call the later one counts. After an error nothing is changed.
+    pub fn fail_call(&mut self, call: u64, taken: bool) -> Result<(), NoMemory>
+        ensures ok { OnOk result (self.new ≡ record self.old { plans = self.old.plans ++ record { call = call; taken = taken } ∷ [] }) }
+        ensures err { OnErr result (self.new ≡ self.old) }
+    {
+        match self.plans.push(Plan { call, taken }) {
+            Ok(()) => Ok(()),
+            Err(_) => Err(NoMemory),
+        }
+    }
+
+    /// Makes room in the log for at least so many further writes and barriers, which then fail only
+    /// where it is planned. After an error nothing is changed.
+    pub fn reserve(&mut self, calls: u64) -> Result<(), NoMemory>
+        ensures ok { OnOk result (self.new ≡ record self.old { spare = max self.old.spare calls }) }
+        ensures err { OnErr result (self.new ≡ self.old) }
+    {
+        let calls = calls as usize;
+        self.log.reserve(calls)?;
+        if self.replaced.reserve(calls).is_err() {
+            return Err(NoMemory);
+        }
+        self.spare = self.spare.max(calls);
+        Ok(())
+    }
+
+    /// The write and barrier calls so far, in order, without those for whose entry no memory was found.
+    pub fn log(&self) -> &[LogEntry]
+        ensures { result.now ≡ self.now.kept }
+    {
+        self.log.kept()
+    }
+
+    /// The number of write and barrier calls so far, failed ones too. It stands still at its end.
+    pub fn calls(&self) -> u64
+        ensures { result ≡ self.now.calls }
+    {
+        self.calls
+    }
+
+    // A write that is taken, where there is memory for its entry.
+    fn take_write(&mut self, page: u32, from: &Page, end: End) -> bool
+        requires page { page < (memory_seen self.old).pages }
+        requires taken { end ≢ End.Refused }
+        ensures kept { OnTrue result (self.new ≡ with_entry self.old (LogEntry.Write page from.now end)) }
+        ensures same { OnFalse result (self.new ≡ self.old) }
+        ensures room { OnFalse result (self.old.spare ≡ 0) }
+    {
+        if self.log.reserve(1).is_err() || self.replaced.reserve(1).is_err() {
+            return false;
+        }
+        let before = mem::replace(&mut self.pages[page as usize], from.copy());
+        self.replaced.push_reserved(before);
+        self.log.keep(LogEntry::Write {
+            page,
+            from: from.copy(),
+            end,
+        });
+        self.spare = self.spare.saturating_sub(1);
+        true
+    }
+
+    // Keeps an entry that leaves the contents, where there is memory for it.
+    fn keep_quiet(&mut self, entry: LogEntry) -> bool
+        requires { IsQuiet entry }
+        ensures kept { OnTrue result (self.new ≡ with_entry self.old entry) }
+        ensures same { OnFalse result (self.new ≡ self.old) }
+        ensures room { OnFalse result (self.old.spare ≡ 0) }
+    {
+        if self.log.reserve(1).is_err() {
+            return false;
+        }
+        self.log.keep(entry);
+        self.spare = self.spare.saturating_sub(1);
+        true
+    }
+
+    // Counts a call for whose entry no memory was found.
+    fn lose(&mut self)
+        ensures counted { length self.new.all + 1 < 2 ^ 64 → self.new.all ≡ self.old.all ++ lost_call ∷ [] }
+        ensures some { (n : ℕ) × (self.new ≡ record self.old { all = self.old.all ++ replicate n lost_call }) }
+    {
+        self.log.lose();
+    }
+
+    // Counts a write or barrier, and gives what is planned for it.
+    fn next_plan(&mut self) -> Option<bool>
+        ensures counted { self.new ≡ record self.old { calls = self.new.calls } }
+        ensures calls { self.new.calls ≡ min (self.old.calls + 1) 18446744073709551615 }
+        ensures plan { result ≡ plan_for self.old.plans self.new.calls }
+    {
+        self.calls = self.calls.saturating_add(1);
+        planned(&self.plans, self.calls)
+    }
+
+    // Adds pages of zeros up to so many pages, where there is memory for them.
+    fn add_zeros(&mut self, pages: u32) -> bool
+        ensures added { OnTrue result (self.new ≡ record self.old { start = self.old.start ++ replicate (pages - length self.old.start) zero_block }) }
+        ensures state { OnTrue result ((memory_seen self.new).state ≡ with_room (memory_seen self.old).state (replicate (pages - length self.old.start) zero_block)) }
+        ensures same { OnFalse result (self.new ≡ self.old) }
+        ensures no_more { pages ≤ length self.old.start → IsTrue result }
+    {
+        let have = self.pages.len();
+        let asked = pages as usize;
+        if asked <= have {
+            return true;
+        }
+        if self.pages.reserve(asked - have).is_err() {
+            return false;
+        }
+        push_zeros(&mut self.pages, asked - have);
+        true
+    }
+
+    // The log gains a refused call.
+    fn note_refused(&mut self, entry: LogEntry)
+        requires { IsRefused entry }
+        ensures call { OneCall IsRefused (memory_seen self.old) (memory_seen self.new) }
+        ensures faults { self.new.faults ≡ self.old.faults }
+        ensures calls { self.new.calls ≡ self.old.calls }
+        ensures plans { self.new.plans ≡ self.old.plans }
+        ensures spare { self.old.spare ≤ self.new.spare + 1 }
+    {
+        if self.keep_quiet(entry) {
+            return;
+        }
+        self.lose();
+    }
+
+    // Counts a fault.
+    fn count_fault(&mut self)
+        ensures alone { self.new ≡ record self.old { faults = self.new.faults } }
+        ensures never_falls { self.old.faults ≤ self.new.faults }
+        ensures raised { self.old.faults + 1 < 2 ^ 64 → self.old.faults < self.new.faults }
+    {
+        self.faults = self.faults.saturating_add(1);
+    }
+
+    // A call that ends refused.
+    fn refuse(&mut self, entry: LogEntry) -> Result<(), Failed>
+        requires { IsRefused entry }
+        ensures err { IsErr result }
+        ensures cause { HasCause result (memory_seen self.old) (memory_seen self.new) }
+        ensures call { OneCall IsRefused (memory_seen self.old) (memory_seen self.new) }
+        ensures calls { self.new.calls ≡ self.old.calls }
+        ensures plans { self.new.plans ≡ self.old.plans }
+        ensures spare { self.old.spare ≤ self.new.spare + 1 }
+    {
+        self.note_refused(entry);
+        self.count_fault();
+        Err(Failed)
+    }
+
+    // A write that is not planned to fail.
+    fn write_done(&mut self, page: u32, from: &Page) -> Result<(), Failed>
+        requires { page < (memory_seen self.old).pages }
+        ensures cause { HasCause result (memory_seen self.old) (memory_seen self.new) }
+        ensures call { OneCall (WriteEntry page from.now result) (memory_seen self.old) (memory_seen self.new) }
+        ensures calls { self.new.calls ≡ self.old.calls }
+        ensures plans { self.new.plans ≡ self.old.plans }
+        ensures spare { self.old.spare ≤ self.new.spare + 1 }
+        ensures succeeds { 0 < self.old.spare → IsOk result }
+    {
+        if self.take_write(page, from, End::Done) {
+            return Ok(());
+        }
+        self.refuse(LogEntry::Flush { end: End::Refused })
+    }
+
+    // A write that fails and is taken all the same.
+    fn write_taken(&mut self, page: u32, from: &Page) -> Result<(), Failed>
+        requires { page < (memory_seen self.old).pages }
+        ensures cause { HasCause result (memory_seen self.old) (memory_seen self.new) }
+        ensures call { OneCall (WriteEntry page from.now result) (memory_seen self.old) (memory_seen self.new) }
+        ensures calls { self.new.calls ≡ self.old.calls }
+        ensures plans { self.new.plans ≡ self.old.plans }
+        ensures spare { self.old.spare ≤ self.new.spare + 1 }
+        ensures fails { IsErr result }
+        ensures taken { 0 < self.old.spare → self.new.all ≡ self.old.all ++ LogEntry.Write page from.now End.Taken ∷ [] }
+    {
+        if self.take_write(page, from, End::Taken) {
+            self.count_fault();
+            return Err(Failed);
+        }
+        self.refuse(LogEntry::Flush { end: End::Refused })
+    }
+}
+
+impl Device for MemDevice {
+    ghost use Rattle.page_device.specs.MemorySeen.{memory_seen};
+    ghost use Rattle.page_device.specs.Memory.{FollowsPlan, with_entry, pages_stay};
+
+    ghost seen = { memory_seen };
+
+    ghost counts = { λ m _. pages_stay m };
+
+    fn pages(&self) -> u32 {
+        self.pages.len() as u32
+    }
+
+    fn room(&mut self, pages: u32) -> Result<(), Failed>
+        ensures cause { HasCause result (memory_seen self.old) (memory_seen self.new) }
+        ensures grown { OnOk result (Grows pages (memory_seen self.old) (memory_seen self.new)) }
+        ensures untouched { OnErr result (IsUntouched (memory_seen self.old) (memory_seen self.new)) }
+        ensures exact { OnOk result (self.new ≡ record self.old { start = self.old.start ++ replicate (pages - length self.old.start) zero_block }) }
+        ensures no_more { pages ≤ length self.old.start → IsOk result }
+    {
+        if !self.add_zeros(pages) {
+            self.count_fault();
+            return Err(Failed);
+        }
+        Ok(())
+    }
+
+    fn read(&mut self, page: u32, into: &mut Page) -> Result<(), Failed>
+        requires { page < (memory_seen self.old).pages }
+        ensures cause { HasCause result (memory_seen self.old) (memory_seen self.new) }
+        ensures kept { OneRead (memory_seen self.old) (memory_seen self.new) }
+        ensures newest { OnOk result ((memory_seen self.old).honest ≡ true → (memory_seen self.old).tells_pages ≡ true
+            → slice_get (newest (memory_seen self.old).state) page ≡ Some into.new) }
+        ensures never_fails { IsOk result }
+    {
+        self.reads = self.reads.saturating_add(1);
+        *into = self.pages[page as usize].copy();
+        Ok(())
+    }
+
+    fn write(&mut self, page: u32, from: &Page) -> Result<(), Failed>
+        requires { page < (memory_seen self.old).pages }
+        ensures cause { HasCause result (memory_seen self.old) (memory_seen self.new) }
+        ensures call { OneCall (WriteEntry page from.now result) (memory_seen self.old) (memory_seen self.new) }
+        ensures plan { FollowsPlan result self.old self.new }
+        ensures taken { plan_for self.old.plans self.new.calls ≡ Some true → 0 < self.old.spare
+            → self.new.all ≡ self.old.all ++ LogEntry.Write page from.now End.Taken ∷ [] }
+    {
+        match self.next_plan() {
+            None => self.write_done(page, from),
+            Some(true) => self.write_taken(page, from),
+            Some(false) => self.refuse(LogEntry::Write {
+                page,
+                from: from.copy(),
+                end: End::Refused,
+            }),
+        }
+    }
+
+    fn flush(&mut self) -> Result<(), Failed>
+        ensures cause { HasCause result (memory_seen self.old) (memory_seen self.new) }
+        ensures call { OneCall (FlushEntry result) (memory_seen self.old) (memory_seen self.new) }
+        ensures plan { FollowsPlan result self.old self.new }
+    {
+        if self.next_plan().is_some() {
+            return self.refuse(LogEntry::Flush { end: End::Refused });
+        }
+        if self.keep_quiet(LogEntry::Flush { end: End::Done }) {
+            return Ok(());
+        }
+        self.refuse(LogEntry::Flush { end: End::Refused })
+    }
+}

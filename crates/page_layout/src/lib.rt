@@ -1,0 +1,14 @@
+//! Where everything stands in an image: the superblock, the tables and the data pages.
+//!
+//! `specs/Shape.antt` has the shape and the places, `specs/Tables.antt` reads the tables off an image.
+//! `docs/FORMAT.md` is the format in prose.
+#![tactic(auto)]
+
+mod entries;
+mod numbers;
+mod shape;
+mod superblock;
+
+pub use entries::{count_entry, map_entry, set_count_entry, set_map_entry};
+pub use shape::{BadShape, Shape};
+pub use superblock::{NotFormatted, read_super, super_page};

@@ -1,0 +1,28 @@
+//! The trace language: commands, one a line, and the replies to them.
+//!
+//! `specs/Grammar.antt` says which lines are commands, apart from any parser, and `specs/Texts.antt`
+//! what each reply reads. `docs/FORMAT.md` is the language in prose.
+#![tactic(auto)]
+
+mod command;
+mod contents;
+mod digits;
+mod fields;
+mod kinds;
+mod line_buf;
+mod lines;
+mod number;
+mod parsing;
+mod replies;
+mod reply;
+
+pub use command::Command;
+pub use line_buf::LineBuf;
+pub use lines::command_text;
+pub use number::read_number;
+pub use parsing::{Bad, parse};
+pub use replies::reply_text;
+pub use reply::{Halt, Reply, ScanReport, Stat};
+
+#[cfg(test)]
+mod tests;
