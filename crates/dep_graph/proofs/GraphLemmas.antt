@@ -5,14 +5,14 @@ use Rattle.std.proofs.lemmas.Bool.{and_from, and_parts, cases_Bool, cases_eq, ca
 use Rattle.dep_graph.specs.declared.pairs.Pair.{Pair}
 use Rattle.dep_graph.specs.Pages.{holds, IsFirst, IsLeast, IsRising}
 use Rattle.dep_graph.specs.Paths.{LivePath}
-use Rattle.dep_graph.specs.Pairs.{has_pair, ends_at, from_page, not_from_page}
-use Rattle.dep_graph.specs.Lists.{Edge, IsGraph, barrier_edge, edges_of, is_live, live_edge}
+use Rattle.dep_graph.specs.Pairs.{has_pair, ends_at, from_page, not_from_page, AreRising, Precedes}
+use Rattle.dep_graph.specs.Lists.{AreOnce, Edge, IsGraph, barrier_edge, edges_of, is_live, live_edge}
 use Rattle.dep_graph.specs.Waits.{Waits, waits_for}
 use Rattle.std.proofs.lemmas.List.Filters.{length-filter_both}
 use Rattle.dep_graph.specs.Kept.{IsKept}
 use Rattle.dep_graph.proofs.PathLemmas.{acyclic_fewer, way_begins, way_ends}
 use Rattle.dep_graph.proofs.PageLemmas.{as_long, fewer, found, fewer_by_one, holds_filter}
-use Rattle.dep_graph.proofs.RisingLemmas.{any_where, rises_at, rises_filter}
+use Rattle.dep_graph.proofs.RisingLemmas.{any_where, rises_append, rises_at, rises_filter, rises_map}
 
 any_append : {X : Type 0} (q : X → Bool) (xs ys : List X) → list_any q (xs ++ ys) ≡ list_any q xs || list_any q ys
 any_append q [] ys = refl
@@ -81,11 +81,24 @@ waits_is live barred b =
     ∙ rw (any_map live_edge (λ (e : Edge). eqb e.after b) (λ p. eqb p.after b) (λ p. refl) live, any_map barrier_edge (λ (e : Edge). eqb e.after b) (λ p. eqb p.after b) (λ p. refl) barred, ends_any live b, ends_any barred b)
     (both_none (ends_at live b) (ends_at barred b))
 
+-- of two pairs of which one precedes the other no edges are the same
+not_same : (p q : Pair) → Precedes p q → p.before ≡ q.before → p.after ≡ q.after → ⊥
+not_same p q (inl less) same last = omega arith
+not_same p q (inr both) same last = let less = both.1 in omega arith
+
+-- each edge stands once
+each_once : (live barred : List Pair) → AreRising live → AreRising barred → AreOnce (edges_of live barred)
+each_once live barred live_up barred_up = rises_append (λ (e f : Edge). e ≡ f → ⊥) barrier_edge live_edge live barred
+    (rises_map Precedes (λ (e f : Edge). e ≡ f → ⊥) live_edge (λ p q less same. not_same p q less (ap (λ (e : Edge). e.before) same) (ap (λ (e : Edge). e.after) same)) live live_up)
+    (rises_map Precedes (λ (e f : Edge). e ≡ f → ⊥) barrier_edge (λ p q less same. not_same p q less (ap (λ (e : Edge). e.before) same) (ap (λ (e : Edge). e.after) same)) barred barred_up)
+    (λ p q same. true≢false (ap (λ (e : Edge). is_live e.kind) same))
+
 pub graph_of : (dirty : Waits) (hung nodes : List ℕ) (live barred : List Pair) (n e : ℕ) → IsKept dirty hung nodes live barred
     → IsGraph (record { dirty = dirty.pages; hung = hung; edges = edges_of live barred; spare_nodes = n; spare_edges = e })
 graph_of dirty hung nodes live barred n e k = record {
   dirty_once = k.dirty_rising;
   hung_once = k.hung_rising;
+  edges_once = each_once live barred k.live_rising k.barred_rising;
   live_ends = λ a b h. k.live_ends a b (sym (live_is live barred a b) ∙ h);
   barred_ends = λ a b h. k.barred_ends a b (sym (barred_is live barred a b) ∙ h);
   acyclic = acyclic_fewer (has_pair live) _ (λ a b h. sym (live_is live barred a b) ∙ h) k.acyclic;

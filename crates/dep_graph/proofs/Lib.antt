@@ -9,3 +9,4 @@ pub mod KeptLemmas
 pub mod SearchLemmas
 pub mod WaveLemmas
 pub mod LevelLemmas
+pub mod ReadyLemmas

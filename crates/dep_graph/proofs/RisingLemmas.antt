@@ -1,5 +1,5 @@
 -- Lists in rising order: what stands at a place, and what an insertion and a removal leave.
-use Rattle.std.proofs.Common.{inl, inr, ◌≡◌, ℕ, zero, suc, ◌<◌, ◌≤◌, Bool, true, false, ◌||◌, List, [], ◌∷◌, ◌++◌, length, take, drop, get_or, filter, refl, sym, subst, arith}
+use Rattle.std.proofs.Common.{inl, inr, ◌≡◌, ℕ, zero, suc, ◌<◌, ◌≤◌, Bool, true, false, ◌||◌, List, [], ◌∷◌, ◌++◌, length, take, drop, get_or, map, filter, refl, sym, subst, arith}
 use Rattle.std.specs.List.Sorted.{IsPartitionedBy}
 use Rattle.std.specs.List.{list_any}
 use Rattle.std.proofs.lemmas.Bool.{cases_Bool, cases_eq}
@@ -95,6 +95,35 @@ module _ {X : Type 0} (R : X → X → Type 0) where
     absent_after [] k d h lt = absurd (omega arith)
     absent_after (x ∷ xs) zero d h lt = none_led x xs h.0
     absent_after (x ∷ xs) (suc k) d h lt = rw ((apart x (get_or xs k d) (leads_at x xs d h.0 k (omega arith))).0, absent_after xs k d h.1 (omega arith))
+
+-- what is made of each of them one by one
+module _ {X Y : Type 0} (R : X → X → Type 0) (S : Y → Y → Type 0) (f : X → Y) (keeps : (a b : X) → R a b → S (f a) (f b)) where
+  leads_map : (x : X) (xs : List X) → Leads R x xs → Leads S (f x) (map f xs)
+  unfolding Leads
+  leads_map x [] h = tt
+  leads_map x (y ∷ ys) h = (keeps x y h.0, leads_map x ys h.1)
+
+  pub rises_map : (xs : List X) → Rises R xs → Rises S (map f xs)
+  unfolding Rises
+  rises_map [] h = tt
+  rises_map (x ∷ xs) h = (leads_map x xs h.0, rises_map xs h.1)
+
+-- one list after another
+module _ {X Y : Type 0} (R : X → X → Type 0) (g : Y → X) where
+  leads_all : (x : X) (ys : List Y) → ((y : Y) → R x (g y)) → Leads R x (map g ys)
+  unfolding Leads
+  leads_all x [] h = tt
+  leads_all x (y ∷ ys) h = (h y, leads_all x ys h)
+
+  leads_append : (x : X) (xs : List X) (ys : List Y) → Leads R x xs → ((y : Y) → R x (g y)) → Leads R x (xs ++ map g ys)
+  unfolding Leads
+  leads_append x [] ys h more = leads_all x ys more
+  leads_append x (z ∷ zs) ys h more = (h.0, leads_append x zs ys h.1 more)
+
+  pub rises_append : {W : Type 0} (f : W → X) (ws : List W) (ys : List Y) → Rises R (map f ws) → Rises R (map g ys) → ((w : W) (y : Y) → R (f w) (g y)) → Rises R (map f ws ++ map g ys)
+  unfolding Rises
+  rises_append f [] ys h k cross = k
+  rises_append f (w ∷ ws) ys h k cross = (leads_append (f w) (map f ws) ys h.0 (cross w), rises_append f ws ys h.1 k cross)
 
 swap_or : (x y z : Bool) → (x || (y || z)) ≡ ((x || y) || z)
 swap_or x y z = grind arith

@@ -6,6 +6,7 @@ use Rattle.dep_graph.specs.declared.Kind.TheVariants.{Live, Barrier}
 use Rattle.dep_graph.specs.declared.pairs.Pair.{Pair}
 use Rattle.dep_graph.specs.Pages.{holds, IsRising}
 use Rattle.dep_graph.specs.Paths.{IsAcyclic}
+use Rattle.dep_graph.specs.Rising.{Rises}
 
 pub record Edge : Type 0 where
   pub before : ℕ
@@ -71,10 +72,15 @@ barrier_edge p = record { before = p.before; after = p.after; kind = Barrier }
 abbrev pub edges_of : List Pair → List Pair → List Edge
 edges_of live barred = map live_edge live ++ map barrier_edge barred
 
+-- no edge is the same as one that follows it
+abbrev pub AreOnce : List Edge → Type 0
+AreOnce edges = Rises (λ e f. e ≡ f → ⊥) edges
+
 -- what holds of every graph: each page and each edge stands once, an edge leads between marked pages, and no cycle stands
 pub record IsGraph (g : GraphLists) : Type 0 where
   pub dirty_once : IsRising g.dirty
   pub hung_once : IsRising g.hung
+  pub edges_once : AreOnce g.edges
   pub live_ends : (a b : ℕ) → live_in g a b ≡ true → (dirty_in g a ≡ true) × (dirty_in g b ≡ true)
   pub barred_ends : (a b : ℕ) → barred_in g a b ≡ true → (hung_in g a ≡ true) × (dirty_in g b ≡ true)
   pub acyclic : IsAcyclic (live_in g)

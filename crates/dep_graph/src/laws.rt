@@ -1,5 +1,6 @@
 // Laws of graphs that callers above cite.
-ghost use Rattle.std.specs.Prelude.{◌≡◌, ◌⊎◌, ℕ, ◌≤◌, Bool, true, List, length, cond};
+ghost use Rattle.std.specs.Prelude.{◌≡◌, ◌⊎◌, ℕ, ◌≤◌, Bool, true, false, List, [], length, cond};
+ghost use Rattle.dep_graph.specs.Lists.{GraphLists, IsGraph, dirty_in, is_ready, live_in};
 ghost use Rattle.dep_graph.specs.Marks.{EndsAreMarked, HasLevels, IsGreatestLevel, IsNode, Marks};
 ghost use Rattle.dep_graph.specs.Paths.{Closes, IsAcyclic};
 ghost use Rattle.dep_graph.specs.Schedules.{IsComplete, Respects, Schedule, Waves, barriers, times_written};
@@ -20,4 +21,10 @@ pub fn edges_into_one_page()
         → (a : ℕ) → Closes more a page → Closes live a page }
     ensures acyclic { (live more : ℕ → ℕ → Bool) (page : ℕ) → ((a b : ℕ) → live a b ≡ true → more a b ≡ true) → ((a b : ℕ) → more a b ≡ true → (live a b ≡ true) ⊎ (b ≡ page))
         → IsAcyclic live → ((a : ℕ) → more a page ≡ true → (live a page ≡ true) ⊎ (Closes live a page → ⊥)) → IsAcyclic more }
+{}
+
+/// Where a page is dirty, some dirty page waits for no write. Where moreover none is hung, as after a barrier, one is ready.
+pub fn some_page_is_ready()
+    ensures free { (g : GraphLists) (page : ℕ) → IsGraph g → dirty_in g page ≡ true → (a : ℕ) × ((dirty_in g a ≡ true) × ((b : ℕ) → live_in g b a ≡ false)) }
+    ensures ready { (g : GraphLists) (page : ℕ) → IsGraph g → g.hung ≡ [] → dirty_in g page ≡ true → (a : ℕ) × (is_ready g a ≡ true) }
 {}
