@@ -1,0 +1,12 @@
+pub mod RisingLemmas
+pub mod PageLemmas
+pub mod WaitLemmas
+pub mod PairLemmas
+pub mod MoveLemmas
+pub mod PathLemmas
+pub mod GraphLemmas
+pub mod KeptLemmas
+pub mod SearchLemmas
+pub mod WaveLemmas
+pub mod LevelLemmas
+pub mod ReadyLemmas

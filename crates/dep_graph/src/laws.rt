@@ -1,0 +1,30 @@
+// Laws of graphs that callers above cite.
+ghost use Rattle.std.specs.Prelude.{◌≡◌, ◌⊎◌, ℕ, ◌≤◌, Bool, true, false, List, [], length, cond};
+ghost use Rattle.dep_graph.specs.Lists.{GraphLists, IsGraph, dirty_in, is_ready, live_in};
+ghost use Rattle.dep_graph.specs.Marks.{EndsAreMarked, HasLevels, IsGreatestLevel, IsNode, Marks};
+ghost use Rattle.dep_graph.specs.Paths.{Closes, IsAcyclic};
+ghost use Rattle.dep_graph.specs.Schedules.{IsComplete, Respects, Schedule, Waves, barriers, times_written};
+
+/// Of the complete schedules that respect a graph none has fewer barriers than its greatest level. Waves, each of all ready
+/// pages and a barrier, have exactly so many and write each dirty page once. A node has one level.
+pub fn barriers_are_fewest()
+    ensures fewest { (m : Marks) (n : ℕ) (s : Schedule) → EndsAreMarked m → IsGreatestLevel m n → Respects m s → IsComplete m s → n ≤ barriers s }
+    ensures waves { (m : Marks) (ns : List Marks) (n : ℕ) → EndsAreMarked m → Waves m ns → IsGreatestLevel m n → length ns ≡ n }
+    ensures once { (p : ℕ) (m : Marks) (ns : List Marks) → Waves m ns → times_written p m ns ≡ cond (m.dirty p) 1 0 }
+    ensures level { (m : Marks) (f g : ℕ → ℕ) → EndsAreMarked m → HasLevels m f → HasLevels m g → (p : ℕ) → IsNode m p → f p ≡ g p }
+{}
+
+/// Edges that are added into one page, where none of them closes a cycle alone, make no cycle together: whatever others were
+/// added, none of them closes now that did not before.
+pub fn edges_into_one_page()
+    ensures closes { (live more : ℕ → ℕ → Bool) (page : ℕ) → ((a b : ℕ) → live a b ≡ true → more a b ≡ true) → ((a b : ℕ) → more a b ≡ true → (live a b ≡ true) ⊎ (b ≡ page))
+        → (a : ℕ) → Closes more a page → Closes live a page }
+    ensures acyclic { (live more : ℕ → ℕ → Bool) (page : ℕ) → ((a b : ℕ) → live a b ≡ true → more a b ≡ true) → ((a b : ℕ) → more a b ≡ true → (live a b ≡ true) ⊎ (b ≡ page))
+        → IsAcyclic live → ((a : ℕ) → more a page ≡ true → (live a page ≡ true) ⊎ (Closes live a page → ⊥)) → IsAcyclic more }
+{}
+
+/// Where a page is dirty, some dirty page waits for no write. Where moreover none is hung, as after a barrier, one is ready.
+pub fn some_page_is_ready()
+    ensures free { (g : GraphLists) (page : ℕ) → IsGraph g → dirty_in g page ≡ true → (a : ℕ) × ((dirty_in g a ≡ true) × ((b : ℕ) → live_in g b a ≡ false)) }
+    ensures ready { (g : GraphLists) (page : ℕ) → IsGraph g → g.hung ≡ [] → dirty_in g page ≡ true → (a : ℕ) × (is_ready g a ≡ true) }
+{}
