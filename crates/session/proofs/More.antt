@@ -38,7 +38,7 @@ asks_whole rules line asked asks = ⊎_elim
     too_long bad long h = λ command built is. omega (arith, line_short line command is, long)
     too_long (known command) long h = absurd (omega (arith, line_short (kept line) command h.0, length-take 8206 line, long))
 
-same_kind : (a b c : Meaning) → SameKind a b → SameKind b c → SameKind a c
+pub same_kind : (a b c : Meaning) → SameKind a b → SameKind b c → SameKind a c
 same_kind a b c h k = record { honest = k.honest ∙ h.honest; tells_pages = k.tells_pages ∙ h.tells_pages; tells_log = k.tells_log ∙ h.tells_log; tells_reads = k.tells_reads ∙ h.tells_reads }
 
 nothing_after : (x : DeviceState) → state_after x [] ≡ x

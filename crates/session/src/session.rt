@@ -31,6 +31,7 @@ pub fn serve_trace<S: Source, K: Sink, D: Device>(
     sink: &mut K,
 ) -> Status
     requires { total store.old.tables.shape ≤ (D.seen device.old).pages }
+    ensures never_falls { (D.seen device.old).faults ≤ (D.seen device.new).faults }
     ensures source_cause { result ≡ Status.SourceFault → (S.seen source.old).faults + 1 < 2 ^ 64 → (S.seen source.old).faults < (S.seen source.new).faults }
     ensures sink_cause { result ≡ Status.SinkFault → (K.seen sink.old).faults + 1 < 2 ^ 64 → (K.seen sink.old).faults < (K.seen sink.new).faults }
     ensures device_cause { result ≡ Status.DeviceFault → FaultRose (D.seen device.old) (D.seen device.new) }
