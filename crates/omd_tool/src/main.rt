@@ -16,7 +16,7 @@ const USAGE: &str = "usage: omd_tool IMAGE trace";
 
 // The words that are left.
 fn rest(alloc: Global, words: env::Args) -> Result<Vec<String>, AllocError> {
-    let mut list = Vec::new_in(alloc);
+    let mut list = Vec::new(alloc);
     for word in words {
         list.push(word)?;
     }
@@ -30,13 +30,13 @@ fn main(rt: HostRuntime) -> io::Result<ExitCode> {
         eprintln!(rt; "{USAGE}")?;
         return Ok(ExitCode::from(Status::Usage.number()));
     };
-    let Ok(words) = rest(rt.global(), words) else {
+    let Ok(words) = rest(rt.alloc(), words) else {
         return Ok(ExitCode::from(Status::NoMemory.number()));
     };
     let mut device = FileDevice::named(&rt, path);
     let mut source = StdSource::new(rt.stdin());
     let mut sink = StdSink::new(rt.stdout());
-    let status = run(rt.global(), &words, &mut source, &mut sink, &mut device);
+    let status = run(rt.alloc(), &words, &mut source, &mut sink, &mut device);
     if status == Status::Usage {
         eprintln!(rt; "{USAGE}")?;
     }

@@ -1,17 +1,17 @@
 -- A session goes on by bytes of its input.
-use Rattle.std.proofs.Common.{◌≡◌, ◌⊎◌, inl, inr, ⊎_elim, ℕ, ◌+◌, ◌-◌, ◌<◌, ◌≤◌, true, List, [], ◌∷◌, ◌++◌, length, take, refl, sym, ◌∙◌, ap, subst, arith, append_assoc, length-append, length-take, Result, Ok, Err}
+use Rattle.std.proofs.Common.{◌≡◌, ⊎_elim, ℕ, true, List, [], ◌∷◌, ◌++◌, length, take, refl, sym, ◌∙◌, ap, subst, arith, append_assoc, length-take}
 use Rattle.std.proofs.lemmas.List.{take_all, take-append-le}
 use Rattle.std.proofs.lemmas.Bool.{cases_lt}
 use Rattle.byte_ports.specs.Sink.{SinkMeaning, Takes, TakesFront, takes_none, takes_then}
 use Rattle.page_device.specs.Meaning.{Meaning}
 use Rattle.trace_text.specs.declared.reply.Reply.{Reply}
 use Rattle.trace_text.specs.Texts.{text_of}
-use Rattle.array_model.specs.Turns.{Turn, joined, IsLine, AreLines, lines_of, texts}
+use Rattle.array_model.specs.Turns.{Turn, joined, AreLines, lines_of, texts}
 use Rattle.array_model.proofs.RunLemmas.{texts-last, lines-last, joined-last, joined-append, lines_more, line_more, no_line, empty_line}
 use Rattle.dedup_writer.specs.Core.{CoreView}
 use Rattle.dedup_writer.specs.Stands.{StandsFor}
-use Rattle.session.specs.Answers.{CommandDone, TurnDone}
-use Rattle.session.specs.Session.{kept, Start, Ran, SoFar, SoFarWith, CutShort}
+use Rattle.session.specs.Answers.{CommandDone}
+use Rattle.session.specs.Session.{kept, Start, Ran, SoFarWith, CutShort}
 use Rattle.session.proofs.More.{ran_none, next_turn, ran_more}
 
 -- a byte more is kept

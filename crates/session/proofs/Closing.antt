@@ -1,19 +1,17 @@
 -- The closing flush, and what a session has done when it ends.
-use Rattle.std.proofs.Common.{◌≡◌, ℕ, ◌+◌, ◌<◌, ◌^◌, true, false, List, [], ◌∷◌, ◌++◌, length, refl, sym, ◌∙◌, ap, subst, arith, Result, Ok, Err}
+use Rattle.std.proofs.Common.{◌≡◌, ℕ, true, false, List, [], ◌∷◌, ◌++◌, refl, ◌∙◌, arith}
 use Rattle.byte_ports.specs.Source.{SourceMeaning, Gives}
-use Rattle.byte_ports.specs.Sink.{SinkMeaning, Takes}
+use Rattle.byte_ports.specs.Sink.{SinkMeaning}
 use Rattle.page_device.specs.Meaning.{Meaning}
 use Rattle.array_model.specs.Images.{left_mode}
 use Rattle.array_model.specs.Array.{flushed, writes_nothing}
-use Rattle.array_model.specs.Turns.{Turn, Work, closing, IsRun, lines_of, texts, works_of, survives}
+use Rattle.array_model.specs.Turns.{Work, closing, works_of, survives}
 use Rattle.dedup_writer.specs.Core.{CoreView}
 use Rattle.dedup_writer.specs.Calls.{StoreCall}
 use Rattle.session.specs.declared.status.Status.{Status}
 use Rattle.session.specs.declared.status.Status.TheVariants.{Done, Usage, SourceFault, SinkFault, DeviceFault, BadImage, NoMemory, InputLimit}
-use Rattle.session.specs.Session.{Start, start_rules, start_state, array_done, Did, Ran, SoFar, SoFarWith, CutShort}
-use Rattle.session.specs.declared.reading.Stop.TheVariants as stop
-use Rattle.session.specs.Reading.{input_limit, Reads}
-use Rattle.session.specs.Endings.{AllAnswered, LastPut, TextsPut, SomeRead, TextCut, Ended, all_done, closing_failed, source_failed, limit_reached, sink_failed, Closed, ClosesAs, EndsAs, Served}
+use Rattle.session.specs.Session.{Start, start_rules, array_done, SoFarWith, CutShort}
+use Rattle.session.specs.Endings.{AllAnswered, LastPut, SomeRead, TextCut, Ended, all_done, closing_failed, sink_failed, Closed, ClosesAs, EndsAs, Served}
 use Rattle.session.proofs.More.{did_more}
 
 module _ (s : Start) (bytes : List ℕ) (core later : CoreView) (d e : Meaning) (sink : SinkMeaning) (tells : s.device.tells_pages ≡ true) (all : AllAnswered s bytes core d sink) (same : later.tables.shape ≡ core.tables.shape) where

@@ -1,23 +1,20 @@
 -- What was asked for was done, command by command.
-use Rattle.std.proofs.Common.{◌≡◌, ◌⊎◌, inl, inr, ℕ, ◌<◌, ◌≤◌, true, false, List, refl, sym, ◌∙◌, ap, subst, arith, Result, Ok, Err, ⊎_elim}
-use Rattle.std.proofs.lemmas.Bool.{cases_lt}
+use Rattle.std.proofs.Common.{◌≡◌, inl, inr, ℕ, ◌≤◌, true, false, List, refl, sym, ◌∙◌, ap, subst, arith, Result, Err}
 use Rattle.page_device.specs.Block.{Block, numbered_block}
 use Rattle.page_device.specs.Meaning.{Meaning}
-use Rattle.page_device.specs.declared.error.Failed.{Failed}
 use Rattle.trace_text.specs.declared.command.Command.{Command}
 use Rattle.trace_text.specs.declared.command.Command.TheVariants.{Write, Fill, Read, Discard, Copy, Flush, Scan, Stat, Policy, Tune, Tick}
 use Rattle.trace_text.specs.declared.reply.Reply.{Reply}
 use Rattle.trace_text.specs.declared.reply.Reply.TheVariants as reply
-use Rattle.trace_text.specs.Grammar.{IsCommand, IsBadLine}
+use Rattle.trace_text.specs.Grammar.{IsCommand}
 use Rattle.array_model.specs.Images.{Mode}
 use Rattle.array_model.specs.Array.{BlockArray, array_after, writes, last, writes_one, writes_nothing, gained, flushed}
 use Rattle.array_model.specs.Replies.{FitsReply}
-use Rattle.array_model.specs.Turns.{Asked, bad, known, Rules, RunState, Asks}
+use Rattle.array_model.specs.Turns.{bad, known, Asks}
 use Rattle.dedup_writer.specs.declared.store.Refusal.{Refusal}
 use Rattle.dedup_writer.specs.declared.store.Refusal.TheVariants as refusal
 use Rattle.dedup_writer.specs.Core.{CoreView}
 use Rattle.dedup_writer.specs.Calls.{StoreCall, WriteCause, ReadCause}
-use Rattle.dedup_writer.specs.Stands.{StandsFor}
 use Rattle.dedup_writer.proofs.Quiet.{nothing}
 use Rattle.session.specs.Answers.{is_built, rules_of, refusal_reply, AskedDone, KnownDone, NothingDone, RunsCommand, CommandDone}
 

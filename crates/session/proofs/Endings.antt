@@ -1,16 +1,15 @@
 -- The end of a session.
 use Rattle.std.proofs.lemmas.List.{append-nil}
-use Rattle.std.proofs.Common.{◌≡◌, ◌≢◌, ℕ, ◌+◌, ◌<◌, ◌≤◌, ◌==◌, ◌^◌, true, false, List, [], ◌∷◌, ◌++◌, length, take, Option, Some, None, refl, sym, ◌∙◌, ap, subst, arith, length-take, Result, Ok, Err}
-use Rattle.byte_ports.specs.Sink.{SinkMeaning, Takes, TakesFront, takes_then}
-use Rattle.page_device.specs.Block.{Block}
+use Rattle.std.proofs.Common.{◌≡◌, ℕ, true, List, [], ◌∷◌, ◌++◌, length, refl, sym, ◌∙◌, ap, subst, arith, length-take, Result, Ok, Err}
+use Rattle.byte_ports.specs.Sink.{SinkMeaning, Takes, takes_then}
 use Rattle.page_device.specs.Meaning.{Meaning}
 use Rattle.trace_text.specs.declared.reply.Reply.{Reply}
 use Rattle.trace_text.specs.Texts.{text_of}
-use Rattle.array_model.specs.Turns.{Turn, joined, IsLine, AreLines, AreLinesOf, all_ended, last_open, lines_of, texts}
+use Rattle.array_model.specs.Turns.{Turn, joined, all_ended, last_open, lines_of, texts}
 use Rattle.array_model.proofs.RunLemmas.{texts-last, lines-last}
 use Rattle.dedup_writer.specs.Core.{CoreView}
-use Rattle.session.specs.Answers.{CommandDone, PutText, TurnDone}
-use Rattle.session.specs.Session.{kept, Start, Ran, SoFarWith, CutShort}
+use Rattle.session.specs.Answers.{CommandDone, TurnDone}
+use Rattle.session.specs.Session.{kept, Start, SoFarWith, CutShort}
 use Rattle.session.specs.Endings.{AllAnswered, RestAnswered}
 use Rattle.session.proofs.Bytes.{line_cut}
 use Rattle.session.proofs.More.{next_turn, ran_more}

@@ -1,14 +1,14 @@
 -- A device that was only looked at.
-use Rattle.std.proofs.Common.{◌≡◌, ℕ, ◌-◌, ◌+◌, ◌≤◌, ◌<◌, ⊎_elim, true, List, Option, Some, length, replicate, refl, sym, ◌∙◌, ap, subst, arith, slice_get}
+use Rattle.std.proofs.Common.{◌≡◌, ℕ, ◌-◌, ◌+◌, ◌≤◌, ◌<◌, ⊎_elim, true, List, Some, length, replicate, refl, sym, ◌∙◌, ap, subst, arith, slice_get}
 use Rattle.std.proofs.lemmas.Option.{get_or_from_slice_get}
 use Rattle.std.proofs.lemmas.Bool.{cases_lt}
 use Rattle.page_device.specs.Block.{Block, zero_block}
 use Rattle.page_device.specs.Disk.{DeviceState, newest, at_rest, overlay, with_room}
-use Rattle.page_device.specs.Meaning.{Meaning, SameKind, OneRead, IsUntouched, Grows}
+use Rattle.page_device.specs.Meaning.{Meaning, OneRead, IsUntouched, Grows}
 use Rattle.page_device.proofs.Views.{state_by_none}
 use Rattle.page_layout.specs.Tables.{page_of}
 use Rattle.page_layout.specs.Shape.{ShapeView, total, first_data_page}
-use Rattle.page_layout.specs.Tables.{shape_of, IsFresh}
+use Rattle.page_layout.specs.Tables.{IsFresh}
 use Rattle.page_device.specs.Possible.{length-overlay}
 use Rattle.session.specs.Opening.{Looked, ZeroUpTo, TellsShape, Holds}
 use Rattle.session.proofs.More.{same_kind}

@@ -1,31 +1,27 @@
 -- One turn more of a session.
-use Rattle.std.proofs.Common.{◌≡◌, ◌⊎◌, inl, inr, ⊎_elim, ℕ, ◌+◌, ◌<◌, ◌≤◌, ◌^◌, true, List, [], ◌∷◌, ◌++◌, length, take, Option, Some, None, refl, sym, ◌∙◌, ap, subst, arith, append_assoc, length-append, length-take, Result, Ok, Err}
+use Rattle.std.proofs.Common.{◌≡◌, ◌⊎◌, ⊎_elim, ℕ, ◌+◌, ◌<◌, ◌≤◌, ◌^◌, true, List, [], ◌∷◌, ◌++◌, length, Option, Some, None, refl, sym, ◌∙◌, ap, subst, arith, append_assoc, length-append, length-take}
 use Rattle.std.proofs.lemmas.List.{append-nil, take_all}
 use Rattle.std.proofs.lemmas.Bool.{cases_lt}
-use Rattle.byte_ports.specs.Sink.{SinkMeaning, Takes, TakesFront, takes_none, takes_then}
 use Rattle.page_device.specs.Block.{Block}
 use Rattle.page_device.specs.declared.device.LogEntry.{LogEntry}
 use Rattle.page_device.specs.Disk.{DeviceState, state_after}
-use Rattle.page_device.specs.Meaning.{Meaning, SameKind, IsCounted}
-use Rattle.page_device.specs.Moments.{EachImage, EachMoment, Leaves, state_after-append, each-weaker}
-use Rattle.trace_text.specs.declared.command.Command.{Command}
+use Rattle.page_device.specs.Meaning.{Meaning, SameKind}
+use Rattle.page_device.specs.Moments.{EachImage, EachMoment, state_after-append, each-weaker}
 use Rattle.trace_text.specs.declared.reply.Reply.{Reply}
-use Rattle.trace_text.specs.Grammar.{IsCommand}
-use Rattle.trace_text.specs.Texts.{text_of}
 use Rattle.trace_text.proofs.Lengths.{line_short}
-use Rattle.array_model.specs.Images.{Mode, left_mode}
+use Rattle.array_model.specs.Images.{left_mode}
 use Rattle.array_model.specs.Images.{block_of}
 use Rattle.array_model.specs.Array.{BlockArray, MayBeLeft, Allowed, writes_nothing}
 use Rattle.page_layout.specs.Shape.{ShapeView}
-use Rattle.array_model.specs.Turns.{Asked, bad, known, Turn, Work, answered, Rules, RunState, Asks, FitsAsked, IsRun, joined, IsLine, AreLines, lines_of, texts, works_of, at_after, state_after_turns, calls_of, work_writes, asked_writes, array_after_work, calls_of_works, array_after_works, array_after_asked, WorksLeave, MayLeave}
-use Rattle.array_model.proofs.RunLemmas.{calls-last, array-last, leave-last, leave-none, calls-none, array-none, array_is, works_of-last, run-last, at-last, texts-last, lines-last, joined-last, joined-append, lines_more, line_more, no_line, empty_line}
-use Rattle.dedup_writer.specs.Core.{CoreView, CountsCalls}
+use Rattle.array_model.specs.Turns.{Asked, bad, known, Turn, Work, answered, Rules, Asks, FitsAsked, IsRun, works_of, at_after, state_after_turns, calls_of, work_writes, asked_writes, array_after_work, array_after_asked, MayLeave}
+use Rattle.array_model.proofs.RunLemmas.{calls-last, array-last, leave-last, leave-none, calls-none, array-none, array_is, works_of-last, run-last, at-last}
+use Rattle.dedup_writer.specs.Core.{CoreView}
 use Rattle.dedup_writer.specs.Stands.{StandsFor}
 use Rattle.dedup_writer.specs.Calls.{StoreCall}
 use Rattle.dedup_writer.proofs.Raised.{counts_then, counts_same, counts_none}
 use Rattle.dedup_writer.proofs.Quiet.{images_now}
-use Rattle.session.specs.Answers.{is_built, rules_of, AskedDone, CommandDone, TurnDone}
-use Rattle.session.specs.Session.{kept, Start, start_state, start_rules, calls_done, array_done, Did, Ran, SoFar, CutShort}
+use Rattle.session.specs.Answers.{is_built, rules_of, AskedDone, CommandDone}
+use Rattle.session.specs.Session.{kept, Start, start_state, start_rules, calls_done, array_done, Did, Ran}
 
 -- a line of which the front is kept asks for what its front asks for
 pub asks_whole : (rules : Rules) (line : List ℕ) (asked : Asked) → Asks rules (kept line) asked → Asks rules line asked
@@ -56,17 +52,20 @@ module _ (s : Start) where
       let before = state_after s.device.state (calls_done s works) in
       let state : e.state ≡ state_after before (calls_of work) = call.leaves.state (did.kind.tells_pages ∙ tells) ∙ ap (λ (x : DeviceState). state_after x call.leaves.calls) did.state ∙ ap (state_after before) (sym is_calls) in
       let moments : EachMoment (MayLeave m rules (array_done s works) (Some work)) before (calls_of work) =
-          subst (λ (l : List LogEntry). EachMoment (MayLeave m rules (array_done s works) (Some work)) before l) (sym is_calls)
-          (subst (λ (x : DeviceState). EachMoment (MayLeave m rules (array_done s works) (Some work)) x call.leaves.calls) did.state
-          (each-weaker (MayBeLeft m core.tables.shape.blocks (array_done s works) written) (MayLeave m rules (array_done s works) (Some work)) d.state call.leaves.calls
-          (λ image h. record { good = h.good; reads = λ block lt. subst (λ (w : ℕ → Option Block). Allowed (array_done s works) block (block_of image block) ⊎ (w block ≡ Some (block_of image block))) (sym is_written)
-              (h.reads block (subst (λ (sh : ShapeView). block < sh.blocks) (sym same_core) lt)) })
-          call.leaves.each)) in
+      subst (λ (l : List LogEntry). EachMoment (MayLeave m rules (array_done s works) (Some work)) before l) (sym is_calls)
+      (subst (λ (x : DeviceState). EachMoment (MayLeave m rules (array_done s works) (Some work)) x call.leaves.calls) did.state
+      (each-weaker (MayBeLeft m core.tables.shape.blocks (array_done s works) written) (MayLeave m rules (array_done s works) (Some work)) d.state call.leaves.calls
+      (λ image h. record {
+        good = h.good;
+        reads = λ block lt. subst (λ (w : ℕ → Option Block). Allowed (array_done s works) block (block_of image block) ⊎ (w block ≡ Some (block_of image block))) (sym is_written)
+            (h.reads block (subst (λ (sh : ShapeView). block < sh.blocks) (sym same_core) lt));
+      })
+      call.leaves.each)) in
       let images : EachImage (MayLeave m rules (array_after_work rules (array_done s works) work) None) (state_after before (calls_of work)) =
-          subst (λ (x : BlockArray). EachImage (MayLeave m rules x None) (state_after before (calls_of work))) (sym is_array)
-          (subst (EachImage (MayLeave m rules a None)) state
-          (λ image is. let h = images_now s.mode later e a writes_nothing call.stands image is in
-              record { good = h.good; reads = λ block lt. h.reads block (subst (λ (sh : ShapeView). block < sh.blocks) (sym same_later) lt) })) in
+      subst (λ (x : BlockArray). EachImage (MayLeave m rules x None) (state_after before (calls_of work))) (sym is_array)
+      (subst (EachImage (MayLeave m rules a None)) state
+      (λ image is. let h = images_now s.mode later e a writes_nothing call.stands image is in
+      record { good = h.good; reads = λ block lt. h.reads block (subst (λ (sh : ShapeView). block < sh.blocks) (sym same_later) lt) })) in
       record {
         leave = leave-last m rules s.array s.device.state works work did.leave moments images;
         state = state ∙ sym (state_after-append s.device.state (calls_done s works) (calls_of work)) ∙ ap (state_after s.device.state) (sym (calls-last m rules works work));

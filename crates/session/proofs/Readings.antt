@@ -1,5 +1,5 @@
 -- The pieces of an input make one input.
-use Rattle.std.proofs.Common.{◌≡◌, ℕ, ◌+◌, ◌-◌, ◌≤◌, true, List, [], ◌∷◌, ◌++◌, length, refl, sym, ◌∙◌, ap, subst, arith, append_assoc, length-append, Result, Ok, Err}
+use Rattle.std.proofs.Common.{◌≡◌, ℕ, ◌-◌, ◌≤◌, true, List, [], ◌++◌, length, refl, sym, subst, arith, append_assoc, length-append, Ok, Err}
 use Rattle.std.proofs.lemmas.List.{append-nil}
 use Rattle.byte_ports.specs.Source.{SourceMeaning, Gives, gives_none, gives_then}
 use Rattle.byte_ports.specs.Sink.{SinkMeaning}

@@ -4,12 +4,12 @@ use Rattle.byte_ports.specs.Sink.{SinkMeaning, Takes, TakesFront}
 use Rattle.trace_text.specs.Texts.{text_of}
 use Rattle.page_device.specs.Meaning.{Meaning}
 use Rattle.trace_text.specs.declared.command.Command.{Command}
-use Rattle.trace_text.specs.declared.command.Command.TheVariants.{Write, Fill, Read, Discard, Copy, Flush, Scan, Stat, Policy, Tune, Tick}
+use Rattle.trace_text.specs.declared.command.Command.TheVariants.{Write, Read, Flush}
 use Rattle.trace_text.specs.declared.reply.Reply.{Reply}
 use Rattle.trace_text.specs.declared.reply.Reply.TheVariants as reply
 use Rattle.array_model.specs.Images.{Mode}
 use Rattle.array_model.specs.Array.{BlockArray}
-use Rattle.array_model.specs.Turns.{Asked, bad, known, Rules, RunState, Asks, FitsAsked, array_after_asked, asked_writes}
+use Rattle.array_model.specs.Turns.{Asked, known, Rules, Asks, FitsAsked, array_after_asked, asked_writes}
 use Rattle.dedup_writer.specs.declared.store.Refusal.{Refusal}
 use Rattle.dedup_writer.specs.declared.store.Refusal.TheVariants as refusal
 use Rattle.dedup_writer.specs.Core.{CoreView}

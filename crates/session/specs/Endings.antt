@@ -1,5 +1,5 @@
 -- How a session ends, and what it has done then: the promise.
-use Rattle.std.specs.Prelude.{◌≡◌, ◌≢◌, ℕ, ◌+◌, ◌<◌, ◌^◌, true, false, List, [], ◌∷◌, ◌++◌, length, Result, Ok, Err}
+use Rattle.std.specs.Prelude.{◌≡◌, ℕ, ◌+◌, ◌<◌, ◌^◌, true, false, List, [], ◌∷◌, ◌++◌, length, Result, Ok, Err}
 use Rattle.byte_ports.specs.Source.{SourceMeaning, Gives}
 use Rattle.byte_ports.specs.Sink.{SinkMeaning, Takes, TakesFront}
 use Rattle.page_device.specs.declared.device.LogEntry.{LogEntry}
@@ -11,7 +11,7 @@ use Rattle.dedup_writer.specs.Core.{CoreView}
 use Rattle.session.specs.declared.status.Status.{Status}
 use Rattle.session.specs.declared.status.Status.TheVariants.{Done, SourceFault, SinkFault, DeviceFault, InputLimit}
 use Rattle.session.specs.Statuses.{last_text}
-use Rattle.session.specs.Session.{Start, start_rules, start_state, Did, Ran, SoFarWith, CutShort}
+use Rattle.session.specs.Session.{Start, start_rules, start_state, Did, Ran, CutShort}
 use Rattle.session.specs.Reading.{input_limit}
 
 -- the whole input is lines, and each was answered

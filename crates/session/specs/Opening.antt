@@ -1,5 +1,5 @@
 -- What opening an image finds, and what it leaves.
-use Rattle.std.specs.Prelude.{◌≡◌, ℕ, ◌≤◌, ◌<◌, true, List, Result, Ok, Err}
+use Rattle.std.specs.Prelude.{◌≡◌, ℕ, ◌≤◌, ◌<◌, true, List}
 use Rattle.page_device.specs.Block.{Block, zero_block}
 use Rattle.page_device.specs.Disk.{newest}
 use Rattle.page_device.specs.Meaning.{Meaning, SameKind}

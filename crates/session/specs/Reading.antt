@@ -1,18 +1,12 @@
 -- What is read of the input, and how a session ends.
-use Rattle.std.specs.Prelude.{◌≡◌, ℕ, ◌+◌, ◌<◌, ◌≤◌, ◌^◌, true, Bool, List, [], ◌∷◌, ◌++◌, length, Result, Ok, Err}
+use Rattle.std.specs.Prelude.{◌≡◌, ℕ, ◌+◌, true, List, [], ◌++◌, length}
 use Rattle.byte_ports.specs.Source.{SourceMeaning, Gives}
-use Rattle.byte_ports.specs.Sink.{SinkMeaning, Takes, TakesFront}
-use Rattle.page_device.specs.declared.device.LogEntry.{LogEntry}
+use Rattle.byte_ports.specs.Sink.{SinkMeaning}
 use Rattle.page_device.specs.Meaning.{Meaning}
-use Rattle.trace_text.specs.Texts.{text_of}
-use Rattle.array_model.specs.Images.{left_mode}
-use Rattle.array_model.specs.Turns.{Turn, Work, closing, IsRun, joined, IsLine, AreLines, AreLinesOf, lines_of, texts, works_of, SurvivesCrash}
 use Rattle.dedup_writer.specs.Core.{CoreView}
 use Rattle.session.specs.declared.reading.Stop.{Stop}
 use Rattle.session.specs.declared.reading.Stop.TheVariants as stop
-use Rattle.session.specs.declared.status.Status.{Status}
-use Rattle.session.specs.declared.status.Status.TheVariants.{Done, Usage, SourceFault, SinkFault, DeviceFault, BadImage, NoMemory, InputLimit}
-use Rattle.session.specs.Session.{Start, start_rules, start_state, Did, SoFarWith, CutShort, Goes}
+use Rattle.session.specs.Session.{Start, SoFarWith, CutShort}
 
 -- the most bytes that one session takes
 abbrev pub input_limit : ℕ

@@ -1,8 +1,8 @@
 -- What a session has done: over each array for which the store stood when it began.
-use Rattle.std.specs.Prelude.{◌≡◌, ◌≢◌, ◌⊎◌, ℕ, ◌+◌, ◌<◌, ◌≤◌, ◌^◌, true, List, [], ◌∷◌, ◌++◌, length, take, Result, Ok, Err}
+use Rattle.std.specs.Prelude.{◌≡◌, ℕ, ◌+◌, ◌<◌, ◌≤◌, ◌^◌, true, List, [], ◌∷◌, ◌++◌, length, take, Result, Ok, Err}
 use Rattle.byte_ports.specs.Sink.{SinkMeaning, Takes, TakesFront}
 use Rattle.page_device.specs.declared.device.LogEntry.{LogEntry}
-use Rattle.page_device.specs.Disk.{DeviceState, state_after}
+use Rattle.page_device.specs.Disk.{state_after}
 use Rattle.page_device.specs.Meaning.{Meaning, SameKind, IsCounted}
 use Rattle.trace_text.specs.Texts.{text_of}
 use Rattle.array_model.specs.Images.{Mode, left_mode}

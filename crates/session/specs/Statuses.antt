@@ -1,5 +1,5 @@
 -- The numbers of the statuses, and the last line that each puts.
-use Rattle.std.specs.Prelude.{ℕ, List, [], ◌∷◌, ◌++◌}
+use Rattle.std.specs.Prelude.{ℕ, List, [], ◌∷◌}
 use Rattle.session.specs.declared.status.Status.{Status}
 use Rattle.session.specs.declared.status.Status.TheVariants.{Done, Usage, SourceFault, SinkFault, DeviceFault, BadImage, NoMemory, InputLimit}
 

@@ -39,7 +39,7 @@ pub fn serve_trace<S: Source, K: Sink, D: Device>(
     ensures one_of { EndsAs result }
     ensures served { (mode : Mode) (a : BlockArray) (unused : List ℕ) → StandsFor mode store.old (D.seen device.old) a
         → Served (record { mode = mode; array = a; unused = unused; store = store.old; device = D.seen device.old; sink = K.seen sink.old })
-          result store.new (D.seen device.new) (S.seen source.old) (S.seen source.new) (K.seen sink.new) }
+        result store.new (D.seen device.new) (S.seen source.old) (S.seen source.new) (K.seen sink.new) }
 {
     let mut line = Line::new();
     match answer_all(&mut line, store, device, source, sink) {

@@ -1,5 +1,3 @@
-use Rattle.std.proofs.Common.{◌≡◌, sym, Ok}
-use Rattle.trace_text.specs.declared.command.Command.{Command}
 use Rattle.session.proofs.Done.{one_command, bad_done}
 use Rattle.session.proofs.commands.command.Goals as goal
 

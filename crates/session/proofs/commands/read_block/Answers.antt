@@ -1,9 +1,8 @@
-use Rattle.std.proofs.Common.{◌≡◌, sym, subst, refl, Ok, Err}
-use Rattle.page_device.specs.Block.{Block}
+use Rattle.std.proofs.Common.{sym, subst, refl, Err}
 use Rattle.trace_text.specs.declared.reply.Reply.{Reply}
 use Rattle.array_model.specs.Turns.{known}
 use Rattle.trace_text.specs.declared.command.Command.TheVariants.{Read}
-use Rattle.session.specs.Answers.{AskedDone, refusal_reply}
+use Rattle.session.specs.Answers.{AskedDone}
 use Rattle.session.proofs.Done.{read_done, read_refused, is_range}
 use Rattle.session.proofs.commands.read_block.Goals as goal
 

@@ -1,11 +1,11 @@
-use Rattle.std.proofs.Common.{◌≡◌, sym, subst, refl, true, Ok, Err}
+use Rattle.std.proofs.Common.{sym, subst, refl, true, Err}
 use Rattle.page_device.specs.Block.{Block}
 use Rattle.trace_text.specs.declared.reply.Reply.{Reply}
 use Rattle.array_model.specs.Turns.{known}
 use Rattle.array_model.specs.Array.{gained, writes_one}
 use Rattle.trace_text.specs.declared.command.Command.TheVariants.{Write}
 use Rattle.dedup_writer.specs.Calls.{StoreCall}
-use Rattle.session.specs.Answers.{AskedDone, refusal_reply}
+use Rattle.session.specs.Answers.{AskedDone}
 use Rattle.session.proofs.Done.{write_done, write_refused, is_range}
 use Rattle.session.proofs.commands.write_numbered.Goals as goal
 

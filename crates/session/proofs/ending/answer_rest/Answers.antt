@@ -1,4 +1,4 @@
-use Rattle.std.proofs.Common.{◌≡◌, ℕ, List, subst}
+use Rattle.std.proofs.Common.{ℕ, List, subst}
 use Rattle.session.specs.Answers.{TurnDone}
 use Rattle.session.proofs.Endings.{rest_turn}
 use Rattle.session.proofs.ending.answer_rest.Goals as goal

@@ -1,4 +1,3 @@
-use Rattle.std.proofs.Common.{◌≡◌}
 use Rattle.session.specs.Session.{array_done}
 use Rattle.array_model.specs.Turns.{works_of}
 use Rattle.session.proofs.Closing.{closed_well, closed_by_fault, closed_by_cut}

@@ -1,9 +1,8 @@
-use Rattle.std.proofs.Common.{◌≡◌, ℕ, Ok, sym, ◌∙◌, ap, subst, arith}
-use Rattle.page_device.specs.Block.{Block}
+use Rattle.std.proofs.Common.{ℕ, Ok, sym, ◌∙◌, ap, subst, arith}
 use Rattle.page_device.specs.Disk.{newest}
 use Rattle.page_layout.specs.Shape.{ShapeView, first_data_page}
 use Rattle.session.specs.Opening.{ZeroUpTo, Holds}
-use Rattle.session.proofs.Looking.{held_before, fresh_is, other_version, too_short, not_zero, pages_of}
+use Rattle.session.proofs.Looking.{held_before, fresh_is, too_short, pages_of}
 use Rattle.session.proofs.opening.fresh_shape.Goals as goal
 
 pub returns-then-pages-total-clause-cause : goal.returns-then-pages-total-clause-cause

@@ -1,10 +1,5 @@
-use Rattle.std.proofs.Common.{◌≡◌, length, sym, ◌∙◌, ap, subst, arith}
-use Rattle.page_device.specs.Block.{Block}
-use Rattle.page_device.specs.Disk.{newest}
+use Rattle.std.proofs.Common.{arith}
 use Rattle.page_device.specs.Possible.{length-overlay}
-use Rattle.page_layout.specs.Shape.{IsSuperblock, told_shape}
-use Rattle.session.specs.Opening.{Looked}
-use Rattle.session.proofs.Looking.{looked_room, read_is}
 use Rattle.session.proofs.opening.told_shape.Goals as goal
 
 pub returns-then-pages-eq0-clause-cause : goal.returns-then-pages-eq0-clause-cause

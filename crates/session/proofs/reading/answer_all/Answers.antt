@@ -1,8 +1,7 @@
 use Rattle.std.proofs.lemmas.List.{take-append-le}
-use Rattle.std.proofs.Common.{◌≡◌, ℕ, ◌<◌, true, List, [], ◌++◌, length, take, drop, refl, sym, ◌∙◌, subst, ap, arith, inl, length-take, Ok, Err}
-use Rattle.byte_ports.specs.Source.{SourceMeaning, Gives, gives_nothing}
+use Rattle.std.proofs.Common.{◌≡◌, ℕ, ◌<◌, List, [], ◌++◌, length, take, drop, refl, sym, ◌∙◌, subst, ap, arith, length-take}
+use Rattle.byte_ports.specs.Source.{Gives, gives_nothing}
 use Rattle.session.specs.declared.reading.Stop.TheVariants as stop
-use Rattle.session.specs.Reading.{ReadsOn}
 use Rattle.session.proofs.Readings.{reads_none, reads_stop, reads_more, reads_cut}
 use Rattle.session.proofs.reading.answer_all.Goals as goal
 

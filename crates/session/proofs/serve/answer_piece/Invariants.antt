@@ -1,4 +1,4 @@
-use Rattle.std.proofs.Common.{◌≡◌, ◌≤◌, ℕ, List, take, Result, Ok}
+use Rattle.std.proofs.Common.{◌≡◌, ◌≤◌, ℕ, List, take, Ok}
 use Rattle.page_device.specs.declared.error.Failed.{Failed}
 use Rattle.session.specs.Session.{Start, Goes}
 use Rattle.session.proofs.serve.answer_piece.Given as goal

@@ -1,11 +1,5 @@
-use Rattle.std.proofs.Common.{◌≡◌, ℕ, ◌+◌, ◌<◌, ◌^◌, List, [], ◌++◌, refl, sym, subst, arith, ⊎_elim}
+use Rattle.std.proofs.Common.{ℕ, List, [], refl, sym, subst, arith, ⊎_elim}
 use Rattle.std.proofs.lemmas.Bool.{cases_lt}
-use Rattle.byte_ports.specs.Source.{Gives}
-use Rattle.dedup_writer.specs.Stands.{StandsFor}
-use Rattle.array_model.specs.Array.{BlockArray}
-use Rattle.array_model.specs.Images.{Mode}
-use Rattle.session.specs.declared.status.Status.{Status}
-use Rattle.session.specs.declared.status.Status.TheVariants.{SourceFault, SinkFault, InputLimit}
 use Rattle.session.specs.Session.{Start, SoFarWith}
 use Rattle.session.specs.Endings.{ClosesAs, source_failed, limit_reached}
 use Rattle.session.proofs.Bytes.{so_far_none}
