@@ -1,5 +1,5 @@
 -- The closing flush, and what a session has done when it ends.
-use Rattle.std.proofs.Common.{◌≡◌, ℕ, true, false, List, [], ◌∷◌, ◌++◌, refl, ◌∙◌, arith}
+use Rattle.std.proofs.Common.{◌≡◌, ℕ, ◌≤◌, true, false, List, [], ◌∷◌, ◌++◌, refl, ◌∙◌, arith}
 use Rattle.byte_ports.specs.Source.{SourceMeaning, Gives}
 use Rattle.byte_ports.specs.Sink.{SinkMeaning}
 use Rattle.page_device.specs.Meaning.{Meaning}
@@ -14,7 +14,7 @@ use Rattle.session.specs.Session.{Start, start_rules, array_done, SoFarWith, Cut
 use Rattle.session.specs.Endings.{AllAnswered, LastPut, SomeRead, TextCut, Ended, all_done, closing_failed, sink_failed, Closed, ClosesAs, EndsAs, Served}
 use Rattle.session.proofs.More.{did_more}
 
-module _ (s : Start) (bytes : List ℕ) (core later : CoreView) (d e : Meaning) (sink : SinkMeaning) (tells : s.device.tells_pages ≡ true) (all : AllAnswered s bytes core d sink) (same : later.tables.shape ≡ core.tables.shape) where
+module _ (s : Start) (bytes : List ℕ) (core later : CoreView) (d e : Meaning) (sink : SinkMeaning) (tells : s.device.tells_pages ≡ true) (all : AllAnswered s bytes core d sink) (same : later.tables.shape ≡ core.tables.shape) (falls : d.faults ≤ e.faults) where
   abbrev works : List Work
   works = works_of all.turns
 
@@ -23,6 +23,8 @@ module _ (s : Start) (bytes : List ℕ) (core later : CoreView) (d e : Meaning) 
   closed_well call = record {
     turns = all.turns;
     run = λ few. all.ran.run (omega (arith, few, call.counted.never_falls));
+    sure = all.ran.sure;
+    calm = λ still few. all.ran.calm (omega (arith, still, all.ran.faults, falls)) (omega (arith, few, falls));
     works = works ++ closing true call.leaves.calls ∷ [];
     did = did_more s works (closing true call.leaves.calls) core later d e (flushed (array_done s works)) writes_nothing all.ran.did tells all.ran.shape (same ∙ all.ran.shape) call refl refl refl;
     ended = λ source nothing. all_done call.leaves.calls refl (record { lines = all.lines; nothing_left = nothing }) refl all.put;
@@ -33,6 +35,8 @@ module _ (s : Start) (bytes : List ℕ) (core later : CoreView) (d e : Meaning) 
   closed_by_fault status put call last = record {
     turns = all.turns;
     run = λ few. all.ran.run (omega (arith, few, call.counted.never_falls));
+    sure = all.ran.sure;
+    calm = λ still few. all.ran.calm (omega (arith, still, all.ran.faults, falls)) (omega (arith, few, falls));
     works = works ++ closing false call.leaves.calls ∷ [];
     did = did_more s works (closing false call.leaves.calls) core later d e (array_done s works) writes_nothing all.ran.did tells all.ran.shape (same ∙ all.ran.shape) call refl refl refl;
     ended = λ source nothing. closing_failed call.leaves.calls (record { lines = all.lines; nothing_left = nothing }) refl (record { after_texts = sink; put = all.put; last_line = last });
@@ -47,6 +51,8 @@ module _ (s : Start) (bytes : List ℕ) (core : CoreView) (d : Meaning) (sink : 
   closed_by_cut c = record {
     turns = c.turns ++ c.last ∷ [];
     run = c.ran.run;
+    sure = c.ran.sure;
+    calm = c.ran.calm;
     works = works_of (c.turns ++ c.last ∷ []);
     did = c.ran.did;
     ended = λ source nothing. sink_failed (cut_is c) refl refl;
@@ -71,6 +77,8 @@ module _ (s : Start) (status : Status) (core : CoreView) (d : Meaning) (source s
     gives = gives;
     turns = c.turns;
     run = c.run;
+    sure = c.sure;
+    calm = c.calm;
     works = c.works;
     did = c.did;
     survives = survives (left_mode s.mode) (start_rules s) s.array s.device.state c.works c.did.leave;
@@ -87,6 +95,8 @@ module _ (s : Start) (status : Status) (core : CoreView) (d : Meaning) (source s
         gives = gives;
         turns = h.turns;
         run = h.ran.run;
+        sure = h.ran.sure;
+        calm = h.ran.calm;
         works = works_of h.turns;
         did = h.ran.did;
         survives = survives (left_mode s.mode) (start_rules s) s.array s.device.state (works_of h.turns) h.ran.did.leave;
@@ -101,6 +111,8 @@ module _ (s : Start) (core : CoreView) (d : Meaning) (source source' : SourceMea
     gives = gives;
     turns = c.turns ++ c.last ∷ [];
     run = c.ran.run;
+    sure = c.ran.sure;
+    calm = c.ran.calm;
     works = works_of (c.turns ++ c.last ∷ []);
     did = c.ran.did;
     survives = survives (left_mode s.mode) (start_rules s) s.array s.device.state (works_of (c.turns ++ c.last ∷ [])) c.ran.did.leave;

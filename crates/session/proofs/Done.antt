@@ -16,7 +16,7 @@ use Rattle.dedup_writer.specs.declared.store.Refusal.TheVariants as refusal
 use Rattle.dedup_writer.specs.Core.{CoreView}
 use Rattle.dedup_writer.specs.Calls.{StoreCall, WriteCause, ReadCause}
 use Rattle.dedup_writer.proofs.Quiet.{nothing}
-use Rattle.session.specs.Answers.{is_built, rules_of, refusal_reply, AskedDone, KnownDone, NothingDone, RunsCommand, CommandDone}
+use Rattle.session.specs.Answers.{is_built, rules_of, refusal_reply, ReplyCause, AskedDone, KnownDone, NothingDone, RunsCommand, CommandDone}
 
 module _ (mode : Mode) (a : BlockArray) (unused : List ℕ) (c0 c1 : CoreView) (d0 d1 : Meaning) where
   -- a write that was done
@@ -67,16 +67,18 @@ pub bad_done : (line : List ℕ) (core : CoreView) (d : Meaning) → Asks (rules
 bad_done line core d asks = record {
   asked = bad;
   asks = asks;
+  cause = tt;
+  never_falls = omega arith;
   done = λ mode a unused sf. record { fits = refl; call = record { stands = (nothing mode core d a writes_nothing sf).stands; leaves = (nothing mode core d a writes_nothing sf).leaves; counted = (nothing mode core d a writes_nothing sf).counted } };
 }
 
 -- a line that is one command asks for it, where it is built, and for nothing otherwise
 pub one_command : (line : List ℕ) (command : Command) (r : Reply) (c0 c1 : CoreView) (d0 d1 : Meaning) → IsCommand line command → ((other : Command) → IsCommand line other → command ≡ other)
-    → RunsCommand command r c0 c1 d0 d1 → CommandDone line r c0 c1 d0 d1
-one_command line command r c0 c1 d0 d1 is only runs = by command is only runs
+    → ReplyCause r c0 d0 d1 → d0.faults ≤ d1.faults → RunsCommand command r c0 c1 d0 d1 → CommandDone line r c0 c1 d0 d1
+one_command line command r c0 c1 d0 d1 is only cause falls runs = by command is only runs
   where
     built : (one : Command) → IsCommand line one → is_built one ≡ true → KnownDone one r c0 c1 d0 d1 → CommandDone line r c0 c1 d0 d1
-    built one is sure done = record { asked = known one; asks = (is, sure); done = done }
+    built one is sure done = record { asked = known one; asks = (is, sure); cause = cause; never_falls = falls; done = done }
 
     other : (one : Command) → ((o : Command) → IsCommand line o → one ≡ o) → is_built one ≡ false → NothingDone r c0 c1 d0 d1 → CommandDone line r c0 c1 d0 d1
     other one only not_built done =

@@ -20,8 +20,8 @@ use Rattle.dedup_writer.specs.Stands.{StandsFor}
 use Rattle.dedup_writer.specs.Calls.{StoreCall}
 use Rattle.dedup_writer.proofs.Raised.{counts_then, counts_same, counts_none}
 use Rattle.dedup_writer.proofs.Quiet.{images_now}
-use Rattle.session.specs.Answers.{is_built, rules_of, AskedDone, CommandDone}
-use Rattle.session.specs.Session.{kept, Start, start_state, start_rules, calls_done, array_done, Did, Ran}
+use Rattle.session.specs.Answers.{is_built, rules_of, ReplyCause, AskedDone, CommandDone}
+use Rattle.session.specs.Session.{kept, Start, start_state, start_rules, calls_done, array_done, EachAnswer, IsSure, NoFault, Did, Ran}
 
 -- a line of which the front is kept asks for what its front asks for
 pub asks_whole : (rules : Rules) (line : List ℕ) (asked : Asked) → Asks rules (kept line) asked → Asks rules line asked
@@ -40,6 +40,23 @@ same_kind a b c h k = record { honest = k.honest ∙ h.honest; tells_pages = k.t
 nothing_after : (x : DeviceState) → state_after x [] ≡ x
 unfolding state_after
 nothing_after x = refl
+
+-- one reply more
+each-last : (P : Reply → Type 0) (turns : List Turn) (turn : Turn) → EachAnswer P turns → P turn.answer → EachAnswer P (turns ++ turn ∷ [])
+unfolding EachAnswer
+each-last P [] turn each last = (last, tt)
+each-last P (first ∷ turns) turn each last = (each.0, each-last P turns turn each.1 last)
+
+-- what the cause of a reply rules out
+sure_answer : (r : Reply) (core : CoreView) (d e : Meaning) → ReplyCause r core d e → IsSure core.tables.shape.pages r
+sure_answer r core d e cause = record {
+  whole = λ damage is. subst (λ (q : Reply). ReplyCause q core d e) is cause;
+  has_memory = λ is. subst (λ (q : Reply). ReplyCause q core d e) is cause;
+  full = λ live waste is. (subst (λ (q : Reply). ReplyCause q core d e) is cause).0;
+}
+
+no_fault : (r : Reply) (core : CoreView) (d e : Meaning) → ReplyCause r core d e → e.faults ≡ d.faults → e.faults + 1 < 2 ^ 64 → NoFault r
+no_fault r core d e cause same few is = omega (arith, same, few, subst (λ (q : Reply). ReplyCause q core d e) is cause (omega (arith, same, few)))
 
 module _ (s : Start) where
   -- one more work, which a call of the store was
@@ -88,7 +105,7 @@ module _ (s : Start) where
   }
 
   pub ran_none : StandsFor s.mode s.store s.device s.array → Ran s [] s.store s.device
-  unfolding works_of IsRun at_after
+  unfolding works_of IsRun at_after EachAnswer
   ran_none sf = record {
     did = did_none sf;
     stands = subst (StandsFor s.mode s.store s.device) (sym (array-none (left_mode s.mode) (start_rules s) s.array)) sf;
@@ -96,6 +113,9 @@ module _ (s : Start) where
     counted = counts_same 0 _ s.store.calls s.store.calls (sym (ap length (calls-none (left_mode s.mode) (start_rules s)))) (counts_none s.store.calls);
     run = λ _. tt;
     at = λ _. refl;
+    faults = omega arith;
+    sure = tt;
+    calm = λ _ _. tt;
   }
 
   -- a line was answered
@@ -148,4 +168,8 @@ module _ (s : Start) where
       run = λ few. run-last (start_rules s) (start_state s) s.store.calls turns next_turn (ran.run (few_before few)) asks fits
           (asked_done.call.counted.counted few ∙ ap (λ (n : ℕ). n + length asked_done.call.leaves.calls) (sym (ran.at (few_before few))));
       at = λ few. at-last s.store.calls turns next_turn;
+      faults = omega (arith, ran.faults, done.never_falls);
+      sure = each-last (IsSure s.store.tables.shape.pages) turns next_turn ran.sure (subst (λ (sh : ShapeView). IsSure sh.pages answer) ran.shape (sure_answer answer core d e done.cause));
+      calm = λ same few. each-last NoFault turns next_turn (ran.calm (omega (arith, same, ran.faults, done.never_falls)) (omega (arith, few, done.never_falls)))
+          (no_fault answer core d e done.cause (omega (arith, same, ran.faults, done.never_falls)) few);
     }

@@ -1,5 +1,5 @@
 -- What a command of a line does, and how it is answered.
-use Rattle.std.specs.Prelude.{◌≡◌, ℕ, Bool, true, false, List, Result, Ok, Err}
+use Rattle.std.specs.Prelude.{◌≡◌, ℕ, ◌≤◌, Bool, true, false, List, Result, Ok, Err}
 use Rattle.byte_ports.specs.Sink.{SinkMeaning, Takes, TakesFront}
 use Rattle.trace_text.specs.Texts.{text_of}
 use Rattle.page_device.specs.Meaning.{Meaning}
@@ -13,7 +13,7 @@ use Rattle.array_model.specs.Turns.{Asked, known, Rules, Asks, FitsAsked, array_
 use Rattle.dedup_writer.specs.declared.store.Refusal.{Refusal}
 use Rattle.dedup_writer.specs.declared.store.Refusal.TheVariants as refusal
 use Rattle.dedup_writer.specs.Core.{CoreView}
-use Rattle.dedup_writer.specs.Calls.{StoreCall}
+use Rattle.dedup_writer.specs.Calls.{StoreCall, FaultRose, AllCounted}
 use Rattle.dedup_writer.specs.Stands.{StandsFor}
 
 -- the commands that are built
@@ -34,6 +34,15 @@ refusal_reply refusal.Device = reply.Fault
 refusal_reply (refusal.Damaged damage) = reply.Damaged damage
 refusal_reply (refusal.Full live waste) = reply.Full live waste
 refusal_reply refusal.NoMemory = reply.NoMemory
+
+-- Why a command was not done: the device counted a fault in this call, or every data page is counted. The store reads no
+-- table page and takes no memory, so that the other two refusals do not come.
+abbrev pub ReplyCause : Reply → CoreView → Meaning → Meaning → Type 0
+ReplyCause reply.Fault core d e = FaultRose d e
+ReplyCause (reply.Full live waste) core d e = (live ≡ core.tables.shape.pages) × AllCounted core
+ReplyCause (reply.Damaged damage) core d e = ⊥
+ReplyCause reply.NoMemory core d e = ⊥
+ReplyCause r core d e = Unit {0}
 
 -- what was asked for was done over an array: the reply fits, and the store did what the array says
 pub record AskedDone (mode : Mode) (a : BlockArray) (unused : List ℕ) (asked : Asked) (r : Reply) (old new : CoreView) (d e : Meaning) : Type 0 where
@@ -57,6 +66,8 @@ RunsCommand command r old new d e = NothingDone r old new d e
 pub record CommandDone (line : List ℕ) (r : Reply) (old new : CoreView) (d e : Meaning) : Type 0 where
   pub asked : Asked
   pub asks : Asks (rules_of old) line asked
+  pub cause : ReplyCause r old d e
+  pub never_falls : d.faults ≤ e.faults
   pub done : (mode : Mode) (a : BlockArray) (unused : List ℕ) → StandsFor mode old d a → AskedDone mode a unused asked r old new d e
 
 -- the text was put whole, or a front of it

@@ -11,7 +11,7 @@ use Rattle.dedup_writer.specs.Core.{CoreView}
 use Rattle.session.specs.declared.status.Status.{Status}
 use Rattle.session.specs.declared.status.Status.TheVariants.{Done, SourceFault, SinkFault, DeviceFault, InputLimit}
 use Rattle.session.specs.Statuses.{last_text}
-use Rattle.session.specs.Session.{Start, start_rules, start_state, Did, Ran, CutShort}
+use Rattle.session.specs.Session.{Start, start_rules, start_state, EachAnswer, IsSure, Calm, Did, Ran, CutShort}
 use Rattle.session.specs.Reading.{input_limit}
 
 -- the whole input is lines, and each was answered
@@ -72,6 +72,8 @@ pub data Ended (bytes : List ℕ) (turns : List Turn) (works : List Work) (statu
 pub record Closed (s : Start) (bytes : List ℕ) (status : Status) (core : CoreView) (d : Meaning) (sink : SinkMeaning) : Type 0 where
   pub turns : List Turn
   pub run : core.calls + 1 < 2 ^ 64 → IsRun (start_rules s) (start_state s) s.store.calls turns
+  pub sure : EachAnswer (IsSure s.store.tables.shape.pages) turns
+  pub calm : Calm s.device d turns
   pub works : List Work
   pub did : Did s works d
   pub ended : (source : SourceMeaning) → (source.tells ≡ true → source.left ≡ []) → Ended bytes turns works status source s.sink sink
@@ -100,6 +102,8 @@ pub record Served (s : Start) (status : Status) (core : CoreView) (d : Meaning) 
   pub gives : Gives bytes source source'
   pub turns : List Turn
   pub run : core.calls + 1 < 2 ^ 64 → IsRun (start_rules s) (start_state s) s.store.calls turns
+  pub sure : EachAnswer (IsSure s.store.tables.shape.pages) turns
+  pub calm : Calm s.device d turns
   pub works : List Work
   pub did : Did s works d
   pub survives : SurvivesCrash (left_mode s.mode) (start_rules s) s.array s.device.state works

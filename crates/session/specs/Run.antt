@@ -1,5 +1,5 @@
 -- What the program promises.
-use Rattle.std.specs.Prelude.{◌≡◌, ℕ, true, List, [], ◌∷◌}
+use Rattle.std.specs.Prelude.{◌≡◌, ℕ, ◌≤◌, true, List, [], ◌∷◌}
 use Rattle.byte_ports.specs.Source.{SourceMeaning}
 use Rattle.byte_ports.specs.Sink.{SinkMeaning}
 use Rattle.page_device.specs.Disk.{at_rest}
@@ -36,6 +36,7 @@ pub record Opened (status : Status) (d d' : Meaning) (source source' : SourceMea
   pub begun : Meaning
   pub core : CoreView
   pub looked : Looked d begun
+  pub faults : d.faults ≤ begun.faults
   pub calls : store.calls ≡ 0
   pub fresh : Holds IsFresh d
   pub shape : Holds (TellsShape store.tables.shape) d

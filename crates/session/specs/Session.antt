@@ -1,9 +1,12 @@
 -- What a session has done: over each array for which the store stood when it began.
-use Rattle.std.specs.Prelude.{◌≡◌, ℕ, ◌+◌, ◌<◌, ◌≤◌, ◌^◌, true, List, [], ◌∷◌, ◌++◌, length, take, Result, Ok, Err}
+use Rattle.std.specs.Prelude.{◌≡◌, ◌≢◌, ℕ, ◌+◌, ◌<◌, ◌≤◌, ◌^◌, true, List, [], ◌∷◌, ◌++◌, length, take, Result, Ok, Err}
 use Rattle.byte_ports.specs.Sink.{SinkMeaning, Takes, TakesFront}
 use Rattle.page_device.specs.declared.device.LogEntry.{LogEntry}
+use Rattle.page_device.specs.declared.error.Damage.{Damage}
 use Rattle.page_device.specs.Disk.{state_after}
 use Rattle.page_device.specs.Meaning.{Meaning, SameKind, IsCounted}
+use Rattle.trace_text.specs.declared.reply.Reply.{Reply}
+use Rattle.trace_text.specs.declared.reply.Reply.TheVariants as reply
 use Rattle.trace_text.specs.Texts.{text_of}
 use Rattle.array_model.specs.Images.{Mode, left_mode}
 use Rattle.array_model.specs.Array.{BlockArray}
@@ -45,6 +48,25 @@ pub record Did (s : Start) (works : List Work) (d : Meaning) : Type 0 where
   pub log : s.device.tells_log ≡ true → IsCounted d → d.log ≡ s.device.log ++ calls_done s works
   pub kind : SameKind s.device d
 
+-- each reply
+unfoldable pub EachAnswer : (Reply → Type 0) → List Turn → Type 0
+EachAnswer P [] = Unit {0}
+EachAnswer P (turn ∷ turns) = P turn.answer × EachAnswer P turns
+
+-- it says of no table that it is damaged, and of no memory that it is missing; and a full store has so many live pages as there are data pages
+pub record IsSure (pages : ℕ) (r : Reply) : Type 0 where
+  pub whole : (damage : Damage) → r ≢ reply.Damaged damage
+  pub has_memory : r ≢ reply.NoMemory
+  pub full : (live waste : ℕ) → r ≡ reply.Full live waste → live ≡ pages
+
+-- it does not say that the device failed
+abbrev pub NoFault : Reply → Type 0
+NoFault r = r ≢ reply.Fault
+
+-- where no fault was counted, no reply is `fault`
+abbrev pub Calm : Meaning → Meaning → List Turn → Type 0
+Calm d e turns = e.faults ≡ d.faults → e.faults + 1 < 2 ^ 64 → EachAnswer NoFault turns
+
 -- these turns were made: the store stands for the array after them, and they are a run as long as calls are counted
 pub record Ran (s : Start) (turns : List Turn) (core : CoreView) (d : Meaning) : Type 0 where
   pub did : Did s (works_of turns) d
@@ -53,6 +75,9 @@ pub record Ran (s : Start) (turns : List Turn) (core : CoreView) (d : Meaning) :
   pub counted : CountsCalls (length (calls_done s (works_of turns))) s.store.calls core.calls
   pub run : core.calls + 1 < 2 ^ 64 → IsRun (start_rules s) (start_state s) s.store.calls turns
   pub at : core.calls + 1 < 2 ^ 64 → at_after s.store.calls turns ≡ core.calls
+  pub faults : s.device.faults ≤ d.faults
+  pub sure : EachAnswer (IsSure s.store.tables.shape.pages) turns
+  pub calm : Calm s.device d turns
 
 -- these bytes of the input are lines that were answered, and one that is begun
 pub record SoFar (s : Start) (bytes begun : List ℕ) (core : CoreView) (d : Meaning) (sink : SinkMeaning) : Type 0 where

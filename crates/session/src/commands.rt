@@ -4,9 +4,8 @@ ghost use Rattle.page_layout.specs.Shape.{total};
 ghost use Rattle.array_model.specs.Images.{Mode};
 ghost use Rattle.array_model.specs.Array.{BlockArray};
 ghost use Rattle.array_model.specs.Turns.{known};
-ghost use Rattle.dedup_writer.specs.Calls.{FaultRose};
 ghost use Rattle.dedup_writer.specs.Stands.{StandsFor};
-ghost use Rattle.session.specs.Answers.{refusal_reply, AskedDone, RunsCommand, CommandDone};
+ghost use Rattle.session.specs.Answers.{refusal_reply, ReplyCause, AskedDone, RunsCommand, CommandDone};
 
 use dedup_writer::{Refusal, Store};
 use page_device::{Device, Page};
@@ -29,7 +28,7 @@ fn refused(why: Refusal) -> Reply
 fn write_numbered<D: Device>(store: &mut Store, device: &mut D, block: u32, number: u64) -> Reply
     requires { total store.old.tables.shape ≤ (D.seen device.old).pages }
     ensures never_falls { (D.seen device.old).faults ≤ (D.seen device.new).faults }
-    ensures fault { result ≡ Reply.Fault → FaultRose (D.seen device.old) (D.seen device.new) }
+    ensures cause { ReplyCause result store.old (D.seen device.old) (D.seen device.new) }
     ensures pages { (D.seen device.new).pages ≡ (D.seen device.old).pages }
     ensures shape { store.new.tables.shape ≡ store.old.tables.shape }
     ensures done { (mode : Mode) (a : BlockArray) (unused : List ℕ) → StandsFor mode store.old (D.seen device.old) a
@@ -45,7 +44,7 @@ fn write_numbered<D: Device>(store: &mut Store, device: &mut D, block: u32, numb
 fn read_block<D: Device>(store: &mut Store, device: &mut D, block: u32) -> Reply
     requires { total store.old.tables.shape ≤ (D.seen device.old).pages }
     ensures never_falls { (D.seen device.old).faults ≤ (D.seen device.new).faults }
-    ensures fault { result ≡ Reply.Fault → FaultRose (D.seen device.old) (D.seen device.new) }
+    ensures cause { ReplyCause result store.old (D.seen device.old) (D.seen device.new) }
     ensures pages { (D.seen device.new).pages ≡ (D.seen device.old).pages }
     ensures shape { store.new.tables.shape ≡ store.old.tables.shape }
     ensures done { (mode : Mode) (a : BlockArray) (unused : List ℕ) → StandsFor mode store.old (D.seen device.old) a
@@ -62,7 +61,7 @@ fn read_block<D: Device>(store: &mut Store, device: &mut D, block: u32) -> Reply
 fn flush_all<D: Device>(store: &mut Store, device: &mut D) -> Reply
     requires { total store.old.tables.shape ≤ (D.seen device.old).pages }
     ensures never_falls { (D.seen device.old).faults ≤ (D.seen device.new).faults }
-    ensures fault { result ≡ Reply.Fault → FaultRose (D.seen device.old) (D.seen device.new) }
+    ensures cause { ReplyCause result store.old (D.seen device.old) (D.seen device.new) }
     ensures pages { (D.seen device.new).pages ≡ (D.seen device.old).pages }
     ensures shape { store.new.tables.shape ≡ store.old.tables.shape }
     ensures done { (mode : Mode) (a : BlockArray) (unused : List ℕ) → StandsFor mode store.old (D.seen device.old) a
@@ -78,7 +77,7 @@ fn flush_all<D: Device>(store: &mut Store, device: &mut D) -> Reply
 fn run_command<D: Device>(store: &mut Store, device: &mut D, command: &Command) -> Reply
     requires { total store.old.tables.shape ≤ (D.seen device.old).pages }
     ensures never_falls { (D.seen device.old).faults ≤ (D.seen device.new).faults }
-    ensures fault { result ≡ Reply.Fault → FaultRose (D.seen device.old) (D.seen device.new) }
+    ensures cause { ReplyCause result store.old (D.seen device.old) (D.seen device.new) }
     ensures pages { (D.seen device.new).pages ≡ (D.seen device.old).pages }
     ensures shape { store.new.tables.shape ≡ store.old.tables.shape }
     ensures done { RunsCommand command.now result store.old store.new (D.seen device.old) (D.seen device.new) }
@@ -93,11 +92,11 @@ fn run_command<D: Device>(store: &mut Store, device: &mut D, command: &Command) 
 
 /// Runs the command of a line, without its LF, and gives the reply. A line that is no command, or one
 /// whose command is not built, is bad and changes nothing. `Fault` comes only where the device counted
-/// a fault in this call. Costs what the call of the store costs, and is linear in the line.
+/// a fault in this call, and `Full` only where every data page is counted. Costs what the call of the
+/// store costs, and is linear in the line.
 pub fn command<D: Device>(store: &mut Store, device: &mut D, line: &[u8]) -> Reply
     requires { total store.old.tables.shape ≤ (D.seen device.old).pages }
     ensures never_falls { (D.seen device.old).faults ≤ (D.seen device.new).faults }
-    ensures fault { result ≡ Reply.Fault → FaultRose (D.seen device.old) (D.seen device.new) }
     ensures pages { (D.seen device.new).pages ≡ (D.seen device.old).pages }
     ensures shape { store.new.tables.shape ≡ store.old.tables.shape }
     ensures done { CommandDone line.now result store.old store.new (D.seen device.old) (D.seen device.new) }

@@ -4,7 +4,7 @@ use Rattle.session.proofs.commands.command.Goals as goal
 pub returns-in-Ok-clause-done : goal.returns-in-Ok-clause-done
 returns-in-Ok-clause-done g c =
     one_command c.args.line.now c.in-Ok.asked c.run_command.result c.args.store.now c.run_command.new.store (g.D.Device.seen c.args.device.now) (g.D.Device.seen c.run_command.new.device)
-    c.in-Ok.ensures.read (λ other is. cc (c.in-Ok.ensures.only other is)) c.run_command.ensures.done
+    c.in-Ok.ensures.read (λ other is. cc (c.in-Ok.ensures.only other is)) c.run_command.ensures.cause c.run_command.ensures.never_falls c.run_command.ensures.done
 
 pub returns-in-Err-clause-done : goal.returns-in-Err-clause-done
 returns-in-Err-clause-done g c = bad_done c.args.line.now c.args.store.now (g.D.Device.seen c.args.device.now) (λ other _ is. c.in-Err.ensures.bad other is)

@@ -15,6 +15,7 @@ returns-in-Ok-clause-outcome g c = opened (record {
   begun = g.D.Device.seen c.open_fresh.new.device;
   core = c.serve_trace.new.store;
   looked = c.in-Ok.ensures.looked;
+  faults = c.in-Ok.ensures.never_falls;
   calls = c.in-Ok.ensures.calls;
   fresh = c.in-Ok.ensures.fresh;
   shape = c.in-Ok.ensures.shape;
