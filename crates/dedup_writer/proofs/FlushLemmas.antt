@@ -60,7 +60,7 @@ module _ (mode : Mode) (a : BlockArray) (index : ℕ) (c0 : CoreView) (d0 : Mean
   uses = sf.stands.uses
 
   images : (s : DeviceState) → StandsWith uses s c0.tables a → EachImage P s
-  images = left_still mode c0.tables.shape.blocks a writes_nothing uses c0.tables refl
+  images = left_still mode c0.tables.shape.blocks a writes_nothing uses sf.stands.asked c0.tables refl
 
   module _ (c1 : CoreView) (d1 : Meaning) (r : Result Unit Failed) where
     put : (p : PutsCounted (1 + index) (page_of c0.tables.maps index) r d0 d1 c0.calls c1.calls) → AfterPut uses c0.tables a P images (1 + index) (page_of c0.tables.maps index) r d0 d1 p.made
@@ -86,7 +86,7 @@ module _ (mode : Mode) (a : BlockArray) (index : ℕ) (c0 : CoreView) (d0 : Mean
             honest = after.usable.honest;
             tells_pages = after.usable.tells_pages;
             as_many = after.usable.as_many;
-            stands = record { uses = uses; stands = subst (λ (t : CachedTables). StandsWith uses d1.state t a) (sym tables) (later p r refl) };
+            stands = record { uses = uses; asked = sf.stands.asked; stands = subst (λ (t : CachedTables). StandsWith uses d1.state t a) (sym tables) (later p r refl) };
           };
           leaves = after.leaves;
           counted = counts_same p.made (length after.leaves.calls) c0.calls c1.calls (sym after.counted) p.counted;
@@ -115,7 +115,7 @@ all_settled mode core d a none sf = record {
   honest = sf.honest;
   tells_pages = sf.tells_pages;
   as_many = sf.as_many;
-  stands = record { uses = sf.stands.uses; stands = stands_flushed sf.stands.uses d.state core.tables a none sf.stands.stands };
+  stands = record { uses = sf.stands.uses; asked = sf.stands.asked; stands = stands_flushed sf.stands.uses d.state core.tables a none sf.stands.stands };
 }
 
 -- the number of device pages stays

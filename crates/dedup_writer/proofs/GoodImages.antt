@@ -8,13 +8,14 @@ use Rattle.page_device.specs.Block.{Block, zero_block}
 use Rattle.page_device.specs.Disk.{DeviceState, MayHold, IsImage}
 use Rattle.page_layout.specs.Numbers.{entry_of}
 use Rattle.page_layout.specs.Shape.{ShapeView, total, map_pages, count_pages, print_pages, first_count_page, first_print_page, map_page, count_page, count_place, print_page, print_place, data_page}
+use Rattle.page_layout.specs.Fingerprint.{fingerprint_of}
 use Rattle.page_layout.specs.Tables.{page_of, shape_of, IsMapPage, IsCountPage, IsPrintPage, map_of, print_of, print_entry_of, data_of}
-use Rattle.array_model.specs.Images.{IsSound, content_at, block_of}
+use Rattle.array_model.specs.Images.{Mode, fit, sound, tight, left_mode, FromSound, EachPage, IsGood, IsFit, IsSound, content_at, block_of}
 use Rattle.array_model.specs.Array.{BlockArray, IsAmong}
 use Rattle.array_model.specs.Counting.{count_below}
 use Rattle.array_model.proofs.CountingLemmas.{count_below-more}
-use Rattle.dedup_writer.specs.Core.{CachedTables}
-use Rattle.dedup_writer.specs.Stands.{Uses, EntryFits, PageFits, StandsWith}
+use Rattle.dedup_writer.specs.Core.{CachedTables, print_index}
+use Rattle.dedup_writer.specs.Stands.{Uses, EntryFits, PageFits, StandsWith, PrintHolds, stored_print}
 use Rattle.dedup_writer.proofs.Places.{map_page_below, count_page_below, data_page_below, prints_from_counts, data_from_prints}
 
 -- each byte of the zero block is zero, also past its end
@@ -101,11 +102,29 @@ module _ (uses : Uses) (s : DeviceState) (t : CachedTables) (a : BlockArray) (st
       by (inr e) = subst (λ (c : Block). IsAmong c (a.lists block))
           (sym (content_some (map_of image block) e.0 ∙ ap (λ (sh : ShapeView). page_of image (data_page sh (map_of image block))) shape_is ∙ data_is (map_of image block) block e.0 e.1 lt e.2)) e.3
 
-  print_is_none : (p : ℕ) → 1 ≤ p → p ≤ t.shape.pages → print_of image p ≡ None
-  print_is_none p one le =
+  -- the prints are the stored ones
+  print_is : (p : ℕ) → 1 ≤ p → p ≤ t.shape.pages → print_of image p ≡ stored_print uses p
+  print_is p one le =
       let place = print_page_in p one le in
       ap (λ (sh : ShapeView). print_entry_of (page_of image (print_page sh p)) (print_place p)) shape_is
-      ∙ no_print (page_of image (print_page t.shape p)) (print_place p) ((fits (print_page t.shape p) place.0).no_prints ((p - 1) / 170) place.1 refl)
+      ∙ ap (λ (b : Block). print_entry_of b (print_place p)) ((fits (print_page t.shape p) place.0).prints_stay (print_index p) place.1 refl)
+
+  -- and where it is asked they are those of the contents
+  prints_hold : FromSound uses.mode (EachPage image (λ p. (f : List ℕ) → print_of image p ≡ Some f → f ≡ fingerprint_of (shape_of image).version (data_of image p)))
+  prints_hold = by uses.mode (λ p one le. (fits (data_page t.shape p) (data_page_below t.shape p one le)).prints_true)
+    where
+      hold : ((p : ℕ) → 1 ≤ p → p ≤ t.shape.pages → (q : ℕ) → 1 ≤ q → q ≤ t.shape.pages → data_page t.shape q ≡ data_page t.shape p → PrintHolds uses t.shape q (page_of image (data_page t.shape p)))
+          → EachPage image (λ p. (f : List ℕ) → print_of image p ≡ Some f → f ≡ fingerprint_of (shape_of image).version (data_of image p))
+      hold h p one le f is =
+          let below : p ≤ t.shape.pages = subst (λ (sh : ShapeView). p ≤ sh.pages) shape_is le in
+          h p one below p one below refl f (sym (print_is p one below) ∙ is)
+          ∙ ap (λ (sh : ShapeView). fingerprint_of sh.version (page_of image (data_page sh p))) (sym shape_is)
+
+      by : (mode : Mode) → ((p : ℕ) → 1 ≤ p → p ≤ t.shape.pages → FromSound mode ((q : ℕ) → 1 ≤ q → q ≤ t.shape.pages → data_page t.shape q ≡ data_page t.shape p → PrintHolds uses t.shape q (page_of image (data_page t.shape p))))
+          → FromSound mode (EachPage image (λ p. (f : List ℕ) → print_of image p ≡ Some f → f ≡ fingerprint_of (shape_of image).version (data_of image p)))
+      by fit h = tt
+      by sound h = hold h
+      by tight h = hold h
 
   names_few : (p : ℕ) → 1 ≤ p → p ≤ t.shape.pages → count_below (λ block. map_of image block == p) t.shape.blocks ≤ entry_of (page_of image (count_page t.shape p)) (count_place p)
   names_few p one le =
@@ -115,9 +134,12 @@ module _ (uses : Uses) (s : DeviceState) (t : CachedTables) (a : BlockArray) (st
         (fits (count_page t.shape p) (count_page_in p one le)).counts p one le refl,
       )
 
-  -- it is sound
-  pub image_sound : IsSound image
-  image_sound = record {
+  few_printed : (p : ℕ) → 1 ≤ p → p ≤ t.shape.pages → IsSome (stored_print uses p) → 1 ≤ entry_of (page_of image (count_page t.shape p)) (count_place p)
+  few_printed p one le some = (fits (count_page t.shape p) (count_page_in p one le)).printed p one le refl some
+
+  -- it is fit
+  image_fit : IsFit image
+  image_fit = record {
     shape = record {
       superblock = (fits 0 some).superblock refl;
       enough = subst (λ (sh : ShapeView). total sh ≤ length image) (sym shape_is) (omega (arith, st.enough, is.pages));
@@ -128,11 +150,25 @@ module _ (uses : Uses) (s : DeviceState) (t : CachedTables) (a : BlockArray) (st
       counts = subst (λ (sh : ShapeView). (k : ℕ) → k < count_pages sh → IsCountPage sh k (page_of image (first_count_page sh + k))) (sym shape_is)
           (λ k lt. (fits (first_count_page t.shape + k) (omega (arith, lt, data_from_prints t.shape))).count_page_fits k lt refl);
       prints = subst (λ (sh : ShapeView). (k : ℕ) → k < print_pages sh → IsPrintPage sh k (page_of image (first_print_page sh + k))) (sym shape_is)
-          (λ k lt. subst (IsPrintPage t.shape k) (sym ((fits (first_print_page t.shape + k) (omega (arith, lt))).no_prints k lt refl)) (zero_is_print_page t.shape k));
+          (λ k lt. subst (IsPrintPage t.shape k) (sym ((fits (first_print_page t.shape + k) (omega (arith, lt))).prints_stay k lt refl)) (st.cache.print_pages_fit k lt));
     };
     names_counted = subst (λ (sh : ShapeView). (p : ℕ) → 1 ≤ p → p ≤ sh.pages → count_below (λ block. map_of image block == p) sh.blocks ≤ entry_of (page_of image (count_page sh p)) (count_place p)) (sym shape_is) names_few;
-    prints_counted = λ p one le h. absurd (none_is_no_some (print_of image p) (print_is_none p one (subst (λ (sh : ShapeView). p ≤ sh.pages) shape_is le)) h);
-    prints_true = λ p one le f h. absurd (cc (sym (print_is_none p one (subst (λ (sh : ShapeView). p ≤ sh.pages) shape_is le)) ∙ h));
+    prints_counted = λ p one le h.
+        let below : p ≤ t.shape.pages = subst (λ (sh : ShapeView). p ≤ sh.pages) shape_is le in
+        subst (λ (sh : ShapeView). 1 ≤ entry_of (page_of image (count_page sh p)) (count_place p)) (sym shape_is) (few_printed p one below (subst IsSome (print_is p one below) h));
+    prints_true = tt;
     exact = tt;
     once = tt;
   }
+
+  -- it is as good as a crash leaves it
+  pub image_good : IsGood (left_mode uses.mode) image
+  image_good = by uses.mode prints_hold
+    where
+      with_prints : EachPage image (λ p. (f : List ℕ) → print_of image p ≡ Some f → f ≡ fingerprint_of (shape_of image).version (data_of image p)) → IsSound image
+      with_prints h = record { shape = image_fit.shape; well_formed = image_fit.well_formed; names_counted = image_fit.names_counted; prints_counted = image_fit.prints_counted; prints_true = h; exact = tt; once = tt }
+
+      by : (mode : Mode) → FromSound mode (EachPage image (λ p. (f : List ℕ) → print_of image p ≡ Some f → f ≡ fingerprint_of (shape_of image).version (data_of image p))) → IsGood (left_mode mode) image
+      by fit h = image_fit
+      by sound h = with_prints h
+      by tight h = with_prints h

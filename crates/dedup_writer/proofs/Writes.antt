@@ -1,5 +1,5 @@
 -- A whole write, call by call.
-use Rattle.std.proofs.Common.{◌≡◌, ℕ, ◌+◌, ◌-◌, ◌<◌, ◌≤◌, Bool, true, false, List, length, refl, sym, ◌∙◌, ap, subst, arith, slice_set, Result, Ok, Err, is_err}
+use Rattle.std.proofs.Common.{◌≡◌, ℕ, ◌+◌, ◌-◌, ◌<◌, ◌≤◌, Bool, true, false, List, length, refl, sym, ◌∙◌, ap, subst, arith, slice_set, Result, Ok, Err, is_err, IsSome}
 use Rattle.std.proofs.lemmas.List.{get_or-set_same, set-get_or}
 use Rattle.page_device.specs.Block.{Block}
 use Rattle.page_device.specs.declared.error.Failed.{Failed}
@@ -16,15 +16,16 @@ use Rattle.array_model.proofs.CountingLemmas.{count_below-none}
 use Rattle.dedup_writer.specs.Core.{CachedTables, CoreView, map_index, count_index, cached_count, CountsCalls}
 use Rattle.dedup_writer.specs.Put.{PutsCounted}
 use Rattle.dedup_writer.specs.Calls.{StoreCall, CountsOne, NamesOne}
-use Rattle.dedup_writer.specs.Stands.{Uses, PageFits, StandsWith, StandsFor}
+use Rattle.dedup_writer.specs.Stands.{Uses, PageFits, StandsWith, StandsFor, stored_print}
 use Rattle.dedup_writer.proofs.Raised.{counts_then, counts_same}
 use Rattle.dedup_writer.proofs.Places.{number_index, map_page_below, count_page_below, data_page_below, data_page_from, prints_from_counts, data_from_prints}
 use Rattle.dedup_writer.proofs.Steps.{data_fits, counts_fit, maps_fit}
 use Rattle.dedup_writer.proofs.Puts.{IsUsable, AfterPut, put_stands}
 use Rattle.dedup_writer.proofs.Lookups.{page_put}
 use Rattle.dedup_writer.proofs.Counted.{stands_counted, count_is_one}
-use Rattle.dedup_writer.proofs.Named.{renamed, uses, stands_named}
-use Rattle.dedup_writer.proofs.Settled.{stands_unpended}
+use Rattle.dedup_writer.proofs.Renamed.{renamed}
+use Rattle.dedup_writer.proofs.Named.{uses, stands_named}
+use Rattle.dedup_writer.proofs.Settled.{name_settled}
 use Rattle.dedup_writer.proofs.Left.{left_still, left_gained}
 
 module _ (mode : Mode) (a : BlockArray) (block p : ℕ) (content : Block) (c0 : CoreView) (d0 : Meaning) (sf : StandsFor mode c0 d0 a)
@@ -41,21 +42,24 @@ module _ (mode : Mode) (a : BlockArray) (block p : ℕ) (content : Block) (c0 : 
   none : (l : ℕ) → l < shape.blocks → before.serves p l ≡ false
   none l lt_l = count_below-none (before.serves p) shape.blocks l (omega (arith, sf.stands.stands.cache.counts p one le, free)) lt_l
 
+  bare : IsSome (stored_print before p) → ⊥
+  bare some = omega (arith, sf.stands.stands.cache.printed p one le some, free)
+
   usable : IsUsable d0
   usable = record { honest = sf.honest; tells_pages = sf.tells_pages; as_many = sf.as_many }
 
   still : (t : CachedTables) → t.shape ≡ shape → (s : DeviceState) → StandsWith before s t a → EachImage P s
-  still t same = left_still mode shape.blocks a (writes_one block content) before t (ap (λ (sh : ShapeView). sh.blocks) same)
+  still t same = left_still mode shape.blocks a (writes_one block content) before sf.stands.asked t (ap (λ (sh : ShapeView). sh.blocks) same)
 
   module _ (c1 : CoreView) (d1 : Meaning) (r1 : Result Unit Failed) (same1 : c1.tables ≡ c0.tables) (puts1 : PutsCounted (data_page shape p) content r1 d0 d1 c0.calls c1.calls) where
     data_put : AfterPut before c0.tables a P (still c0.tables refl) (data_page shape p) content r1 d0 d1 puts1.made
-    data_put = put_stands before c0.tables a P (still c0.tables refl) (data_page shape p) content r1 d0 d1 puts1.made usable puts1.puts sf.stands.stands (data_fits before c0.tables a p content one le none)
+    data_put = put_stands before c0.tables a P (still c0.tables refl) (data_page shape p) content r1 d0 d1 puts1.made usable puts1.puts sf.stands.stands (data_fits before c0.tables a p content one le none bare)
 
     stands1 : StandsWith before d1.state c1.tables a
     stands1 = subst (λ (t : CachedTables). StandsWith before d1.state t a) (sym same1) data_put.stands
 
     stands_for1 : StandsFor mode c1 d1 a
-    stands_for1 = record { honest = data_put.usable.honest; tells_pages = data_put.usable.tells_pages; as_many = data_put.usable.as_many; stands = record { uses = before; stands = stands1 } }
+    stands_for1 = record { honest = data_put.usable.honest; tells_pages = data_put.usable.tells_pages; as_many = data_put.usable.as_many; stands = record { uses = before; asked = sf.stands.asked; stands = stands1 } }
 
     -- it ended with the data page
     pub data_call : StoreCall mode c0 c1 d0 d1 a a (writes_one block content)
@@ -104,7 +108,7 @@ module _ (mode : Mode) (a : BlockArray) (block p : ℕ) (content : Block) (c0 : 
       -- it ended with the count page
       pub count_call : StoreCall mode c0 c2 d0 d2 a a (writes_one block content)
       count_call = record {
-        stands = record { honest = count_put.usable.honest; tells_pages = count_put.usable.tells_pages; as_many = count_put.usable.as_many; stands = record { uses = before; stands = count_put.stands } };
+        stands = record { honest = count_put.usable.honest; tells_pages = count_put.usable.tells_pages; as_many = count_put.usable.as_many; stands = record { uses = before; asked = sf.stands.asked; stands = count_put.stands } };
         leaves = leaves2;
         counted = counted2;
       }
@@ -143,7 +147,7 @@ module _ (mode : Mode) (a : BlockArray) (block p : ℕ) (content : Block) (c0 : 
         cache2 = omega (arith, ap (λ (t : CachedTables). cached_count t p) counts.tables, count_is_one before c1.tables a p counts.page stands1.cache one le1 free1 counts.sets)
 
         abbrev t3 : CachedTables
-        t3 = renamed before d2.state c2.tables a count_put.stands block p content names.page lt2 one le2 none2 data2 device2 cache2 names.sets
+        t3 = renamed c2.tables block names.page
 
         abbrev later : Uses
         later = uses before d2.state c2.tables a count_put.stands block p content names.page lt2 one le2 none2 data2 device2 cache2 names.sets
@@ -155,7 +159,7 @@ module _ (mode : Mode) (a : BlockArray) (block p : ℕ) (content : Block) (c0 : 
         named = stands_named before d2.state c2.tables a count_put.stands block p content names.page lt2 one le2 none2 data2 device2 cache2 names.sets
 
         new : (t : CachedTables) → t.shape ≡ shape → (s : DeviceState) → StandsWith later s t a3 → EachImage P s
-        new t same = left_gained mode shape.blocks a block content later t (ap (λ (sh : ShapeView). sh.blocks) same)
+        new t same = left_gained mode shape.blocks a block content true later sf.stands.asked t (ap (λ (sh : ShapeView). sh.blocks) same)
 
         within_maps : map_index block < length c2.tables.maps
         within_maps = omega (arith, number_index block c2.tables.shape.blocks lt2, count_put.stands.cache.pages.maps)
@@ -178,14 +182,9 @@ module _ (mode : Mode) (a : BlockArray) (block p : ℕ) (content : Block) (c0 : 
         within_flags : map_index block < length c2.tables.pending
         within_flags = omega (arith, number_index block c2.tables.shape.blocks lt2, count_put.stands.cache.pages.pending)
 
-        -- a page that was not written is pending, one that was is not
-        final : (r : Result Unit Failed) → names.result ≡ r → StandsWith later d3.state (record t3 { pending = slice_set t3.pending (map_index block) (is_err r) }) a3
-        final (Ok _) ok = stands_unpended later d3.state t3 a3 (map_index block) map_put.stands
-            (subst (λ (b : Block). Only d3.state (map_page block) b) (sym map_cached)
-            (subst (λ (s : DeviceState). Only s (map_page block) names.page) (sym (map_put.state ok))
-            (only_put d2.state (map_page block) names.page (omega (arith, map_page_below shape block lt, prints_from_counts shape, data_from_prints shape, count_put.stands.enough, ap total shape2)))))
-        final (Err _) failed = subst (λ (flags : List Bool). StandsWith later d3.state (record t3 { pending = flags }) a3)
-            (sym (ap (λ (b : Bool). slice_set t3.pending (map_index block) b) (sym (get_or-set_same c2.tables.pending (map_index block) true true within_flags)) ∙ set-get_or t3.pending (map_index block) true)) map_put.stands
+        final : StandsWith later d3.state (record c2.tables { maps = slice_set c2.tables.maps (map_index block) names.page; pending = slice_set (slice_set c2.tables.pending (map_index block) true) (map_index block) (is_err names.result) }) a3
+        final = name_settled later c2.tables a3 block names.page d2.state d3.state within_flags map_cached
+            (omega (arith, map_page_below shape block lt, prints_from_counts shape, data_from_prints shape, count_put.stands.enough, ap total shape2)) names.result map_put.state map_put.stands
 
         -- the whole write was done
         pub name_call : StoreCall mode c0 c3 d0 d3 a (gained a block content true) (writes_one block content)
@@ -194,7 +193,7 @@ module _ (mode : Mode) (a : BlockArray) (block p : ℕ) (content : Block) (c0 : 
             honest = map_put.usable.honest;
             tells_pages = map_put.usable.tells_pages;
             as_many = map_put.usable.as_many;
-            stands = record { uses = later; stands = subst (λ (t : CachedTables). StandsWith later d3.state t a3) (sym names.tables) (final names.result refl) };
+            stands = record { uses = later; asked = sf.stands.asked; stands = subst (λ (t : CachedTables). StandsWith later d3.state t a3) (sym names.tables) final };
           };
           leaves = leaves3;
           counted = counted3;

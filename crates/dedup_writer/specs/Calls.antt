@@ -1,6 +1,6 @@
 -- What one call of a store does.
 use Rattle.std.specs.Prelude.{◌≡◌, ℕ, ◌+◌, ◌<◌, ◌≤◌, ◌^◌, length, slice_set, true, false, if◌then◌else◌, Option, Result, Ok, Err, is_err}
-use Rattle.page_device.specs.Block.{Block}
+use Rattle.page_device.specs.Block.{Block, zero_block}
 use Rattle.page_device.specs.declared.error.Failed.{Failed}
 use Rattle.page_device.specs.Meaning.{Meaning}
 use Rattle.page_device.specs.Moments.{Leaves}
@@ -8,7 +8,7 @@ use Rattle.page_layout.specs.Numbers.{SetsEntry}
 use Rattle.page_layout.specs.Shape.{map_page, map_place, count_page, count_place}
 use Rattle.page_layout.specs.Tables.{page_of}
 use Rattle.array_model.specs.Images.{Mode, left_mode}
-use Rattle.array_model.specs.Array.{BlockArray, MayBeLeft, gained, flushed}
+use Rattle.array_model.specs.Array.{BlockArray, MayBeLeft, gained, flushed, maps}
 use Rattle.dedup_writer.specs.declared.store.Refusal.{Refusal}
 use Rattle.dedup_writer.specs.declared.store.Refusal.TheVariants.{Range, Device, Damaged, Full, NoMemory}
 use Rattle.dedup_writer.specs.Core.{CoreView, map_index, count_index, cached_count, is_pending, CountsCalls}
@@ -21,10 +21,15 @@ pub record StoreCall (mode : Mode) (old new : CoreView) (d e : Meaning) (a later
   pub leaves : Leaves d e (MayBeLeft (left_mode mode) old.tables.shape.blocks a written)
   pub counted : CountsCalls (length leaves.calls) old.calls new.calls
 
--- the array after a write that answered so
-abbrev pub after_write : {E : Type 0} → Result Unit E → BlockArray → ℕ → Block → BlockArray
-after_write (Ok _) a block content = gained a block content true
-after_write (Err _) a block content = a
+-- the array after a write over an image of this version, which answered so
+abbrev pub after_write : {E : Type 0} → Result Unit E → ℕ → BlockArray → ℕ → Block → BlockArray
+after_write (Ok _) version a block content = gained a block content (maps version content)
+after_write (Err _) version a block content = a
+
+-- the array after a discard that answered so
+abbrev pub after_discard : {E : Type 0} → Result Unit E → BlockArray → ℕ → BlockArray
+after_discard (Ok _) a block = gained a block zero_block false
+after_discard (Err _) a block = a
 
 -- the array after a flush that answered so
 abbrev pub after_flush : {E : Type 0} → Result Unit E → BlockArray → BlockArray
@@ -54,6 +59,14 @@ ReadCause Device block core old new = FaultRose old new
 ReadCause (Damaged _) block core old new = ⊥
 ReadCause (Full live waste) block core old new = ⊥
 ReadCause NoMemory block core old new = ⊥
+
+-- why a discard is refused: a map page that could not be written stays pending
+abbrev pub DiscardCause : Refusal → ℕ → CoreView → Type 0
+DiscardCause Range block core = core.tables.shape.blocks ≤ block
+DiscardCause Device block core = ⊥
+DiscardCause (Damaged _) block core = ⊥
+DiscardCause (Full live waste) block core = ⊥
+DiscardCause NoMemory block core = ⊥
 
 abbrev pub IsFull : Refusal → Type 0
 IsFull (Full live waste) = Unit {0}

@@ -24,6 +24,10 @@ map_index block = block / 1024
 abbrev pub count_index : ℕ → ℕ
 count_index p = (p - 1) / 1024
 
+-- the print page of a data page, counted from 0
+abbrev pub print_index : ℕ → ℕ
+print_index p = (p - 1) / 170
+
 -- the cached map entry of a block, and the cached count of a data page
 abbrev pub cached_map : CachedTables → ℕ → ℕ
 cached_map t block = entry_of (page_of t.maps (map_index block)) (map_place block)

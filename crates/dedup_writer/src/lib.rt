@@ -7,7 +7,5 @@
 
 mod put;
 mod store;
-#[cfg(test)]
-mod tests;
 
-pub use store::{Refusal, Store};
+pub use store::{Refusal, Store, count_at, name_at};

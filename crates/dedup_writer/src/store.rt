@@ -1,15 +1,15 @@
 // The store over a device.
-ghost use Rattle.std.specs.Prelude.{◌≡◌, ◌≢◌, ℕ, ◌+◌, ◌-◌, ◌<◌, ◌≤◌, true, false, length, replicate, slice_set, IsOk, IsErr, IfOk, IfErr, OnOk, OnErr, IfSome, IfNone, Some};
+ghost use Rattle.std.specs.Prelude.{◌≡◌, ◌≢◌, ◌↔◌, IsTrue, ℕ, ◌+◌, ◌-◌, ◌<◌, ◌≤◌, true, false, length, replicate, slice_set, IsOk, IsErr, IfOk, IfErr, OnOk, OnErr, IfSome, IfNone, Some};
 ghost use Rattle.page_device.specs.Block.{zero_block};
 ghost use Rattle.page_device.specs.Disk.{at_rest, newest};
 ghost use Rattle.page_device.specs.Meaning.{Meaning, HasCause};
 ghost use Rattle.page_layout.specs.Numbers.{entry_of};
-ghost use Rattle.page_layout.specs.Shape.{total, map_pages, count_pages, map_place, count_place, data_page};
-ghost use Rattle.page_layout.specs.Tables.{IsFresh, shape_of, page_of};
+ghost use Rattle.page_layout.specs.Shape.{IsValid, total, map_pages, count_pages, map_place, count_place, data_page};
+ghost use Rattle.page_layout.specs.Tables.{IsMapPage, shape_of, page_of};
 ghost use Rattle.dedup_writer.specs.Core.{map_index, count_index};
 ghost use Rattle.dedup_writer.specs.Put.{PutsCounted};
-ghost use Rattle.array_model.specs.Images.{Mode};
-ghost use Rattle.array_model.specs.Array.{BlockArray, array_start, last, writes_nothing, writes_one};
+ghost use Rattle.array_model.specs.Images.{Mode, IsGood};
+ghost use Rattle.array_model.specs.Array.{BlockArray, array_start, last, maps, writes_nothing, writes_one};
 
 use crate::put::put;
 use page_device::{Damage, Device, Failed, NoMemory, Page};
@@ -48,6 +48,8 @@ pub struct Store {
     next: u32,
     // The number of mapped blocks.
     mapped: u32,
+    // The sum of all counts.
+    counted: u64,
     // Device writes and barriers so far.
     calls: u64,
 }
@@ -66,19 +68,6 @@ impl Model for Store {
     ghost invariant = { λ s. IsWhole (record { shape = s.shape; maps = s.maps.items; counts = s.counts.items; pending = s.pending.items }) s.next };
 }
 
-// So many pages of zeros.
-fn zero_pages(alloc: Global, n: u32) -> Result<Vec<Page>, NoMemory>
-    ensures pages { IfOk result (λ pages. pages.items ≡ replicate n zero_block) }
-{
-    let Ok(mut pages) = Vec::with_capacity(alloc, n as usize) else {
-        return Err(NoMemory);
-    };
-    for _ in 0..n {
-        pages.push_reserved(Page::zero());
-    }
-    Ok(pages)
-}
-
 // So many flags that are not set.
 fn no_flags(alloc: Global, n: u32) -> Result<Vec<bool>, NoMemory>
     ensures flags { IfOk result (λ flags. flags.items ≡ replicate n false) }
@@ -92,8 +81,9 @@ fn no_flags(alloc: Global, n: u32) -> Result<Vec<bool>, NoMemory>
     Ok(flags)
 }
 
-// The map entry of a block in these map pages.
-fn name_at(shape: &Shape, maps: &[Page], block: u32) -> u32
+/// The map entry of a block in these map pages, which are all of them, in order: the data page that it
+/// names, or 0. Constant.
+pub fn name_at(shape: &Shape, maps: &[Page], block: u32) -> u32
     requires block { block < shape.now.blocks }
     requires pages { length maps.now ≡ map_pages shape.now }
     ensures { result ≡ entry_of (page_of maps.now (map_index block)) (map_place block) }
@@ -102,8 +92,8 @@ fn name_at(shape: &Shape, maps: &[Page], block: u32) -> u32
     map_entry(&maps[page as usize - 1], entry)
 }
 
-// The count of a data page in these count pages.
-fn count_at(shape: &Shape, counts: &[Page], p: u32) -> u32
+/// The count of a data page in these count pages, which are all of them, in order. Constant.
+pub fn count_at(shape: &Shape, counts: &[Page], p: u32) -> u32
     requires first { 1 ≤ p }
     requires last { p ≤ shape.now.pages }
     requires pages { length counts.now ≡ count_pages shape.now }
@@ -111,6 +101,55 @@ fn count_at(shape: &Shape, counts: &[Page], p: u32) -> u32
 {
     let (page, entry) = shape.count_place(p);
     count_entry(&counts[(page - shape.first_count_page()) as usize], entry)
+}
+
+// Each byte is zero.
+fn is_zero(page: &Page) -> bool
+    ensures zero { IsTrue result ↔ (page.now ≡ zero_block) }
+    ensures whole { length page.now ≡ 4096 }
+{
+    page.0 == [0; 4096]
+}
+
+// Whether a write of this content maps its block: in version 2 a write of zeros does not.
+fn maps_block(shape: &Shape, from: &Page) -> bool
+    ensures maps { result ≡ maps shape.now.version from.now }
+    ensures zeros { result ≡ false → from.now ≡ zero_block }
+{
+    shape.version != 2 || !is_zero(from)
+}
+
+// The number of map pages.
+fn number_of_map_pages(shape: &Shape) -> u32
+    ensures pages { result ≡ map_pages shape.now }
+    ensures valid { IsValid shape.now }
+{
+    let _ = &shape.blocks;
+    shape.first_count_page() - 1
+}
+
+// How many blocks have a name in these map pages.
+fn count_mapped(shape: &Shape, maps: &[Page]) -> u32
+    requires pages { length maps.now ≡ map_pages shape.now }
+{
+    let mut mapped = 0_u32;
+    for block in 0..shape.blocks {
+        if name_at(shape, maps, block) != 0 {
+            mapped = mapped.saturating_add(1);
+        }
+    }
+    mapped
+}
+
+// The sum of the counts in these count pages.
+fn sum_counts(shape: &Shape, counts: &[Page]) -> u64
+    requires pages { length counts.now ≡ count_pages shape.now }
+{
+    let mut sum = 0_u64;
+    for p in 1..shape.pages + 1 {
+        sum = sum.saturating_add(u64::from(count_at(shape, counts, p)));
+    }
+    sum
 }
 
 // The first data page from `next` on that nothing counts, or the number behind the last one.
@@ -134,31 +173,37 @@ fn first_free(shape: &Shape, counts: &[Page], next: u32) -> u32
 
 impl Store {
     ghost use Rattle.dedup_writer.specs.Core.{CoreView, cached_map, cached_count, count_index, map_index};
-    ghost use Rattle.dedup_writer.specs.Stands.{StandsFor};
-    ghost use Rattle.dedup_writer.specs.Calls.{StoreCall, after_write, after_flush, WriteCause, ReadCause, IsFull, CountsOne, NamesOne, Settles, AllCounted};
+    ghost use Rattle.dedup_writer.specs.Stands.{StandsFor, AreCached};
+    ghost use Rattle.dedup_writer.specs.Calls.{StoreCall, after_write, after_discard, after_flush, WriteCause, ReadCause, DiscardCause, IsFull, CountsOne, NamesOne, Settles, AllCounted};
 
-    /// The store over a freshly formatted image of version 1: every table page is zero. Reads nothing.
-    /// Linear in the table pages.
-    pub fn fresh(alloc: Global, shape: Shape) -> Result<Store, NoMemory>
-        requires { shape.version ≡ 1 }
+    /// The store over an image of this shape, whose map pages and count pages these are, each in order.
+    /// Makes no device call. Linear in the blocks and the data pages.
+    pub fn over(
+        alloc: Global,
+        shape: Shape,
+        maps: Vec<Page>,
+        counts: Vec<Page>,
+    ) -> Result<Store, NoMemory>
+        requires maps { length maps.items ≡ map_pages shape }
+        requires counts { length counts.items ≡ count_pages shape }
+        requires entries { (j : ℕ) → j < map_pages shape → IsMapPage shape j (page_of maps.items j) }
         ensures shape { IfOk result (λ store. store.tables.shape ≡ shape) }
         ensures calls { IfOk result (λ store. store.calls ≡ 0) }
         ensures stands { IfOk result (λ store. (mode : Mode) (d : Meaning) → d.honest ≡ true → d.tells_pages ≡ true → length d.state.fixed ≡ d.pages
-            → IsFresh d.state.fixed → shape_of d.state.fixed ≡ shape → d.state ≡ at_rest d.state.fixed
+            → d.state ≡ at_rest d.state.fixed → shape_of d.state.fixed ≡ shape → IsGood mode d.state.fixed → AreCached d.state.fixed shape maps.items counts.items
             → StandsFor mode store d (array_start d.state.fixed)) }
     {
-        let _blocks = shape.blocks;
-        let map_pages = shape.first_count_page() - 1;
-        let maps = zero_pages(alloc, map_pages)?;
-        let counts = zero_pages(alloc, shape.count_pages())?;
-        let pending = no_flags(alloc, map_pages)?;
+        let mapped = count_mapped(&shape, &maps);
+        let counted = sum_counts(&shape, &counts);
+        let pending = no_flags(alloc, number_of_map_pages(&shape))?;
         Ok(Store {
             shape,
             maps,
             counts,
             pending,
             next: 1,
-            mapped: 0,
+            mapped,
+            counted,
             calls: 0,
         })
     }
@@ -178,7 +223,8 @@ impl Store {
     }
 
     /// Writes a block. A block that was written reads as its new content from then on; after a crash it
-    /// reads that, or what it may have read before, until a flush. After an error it reads as before.
+    /// reads that, or what it may have read before, until a flush. After an error it reads as before. In an
+    /// image of version 2 a write of zeros unmaps the block.
     ///
     /// Costs up to six device calls, beside passing data pages that are counted, each once.
     pub fn write<D: Device>(
@@ -192,13 +238,17 @@ impl Store {
         ensures never_falls { (D.seen device.old).faults ≤ (D.seen device.new).faults }
         ensures range { self.old.tables.shape.blocks ≤ block → result ≡ Err Refusal.Range }
         ensures cause { IfErr result (λ why. WriteCause why block self.old (D.seen device.old) (D.seen device.new)) }
-        ensures full { block < self.old.tables.shape.blocks → AllCounted self.old → IfErr result IsFull × IsErr result }
+        ensures full { block < self.old.tables.shape.blocks → maps self.old.tables.shape.version from.now ≡ true → AllCounted self.old → IfErr result IsFull × IsErr result }
         ensures shape { self.new.tables.shape ≡ self.old.tables.shape }
         ensures array { (mode : Mode) (a : BlockArray) → StandsFor mode self.old (D.seen device.old) a
-            → StoreCall mode self.old self.new (D.seen device.old) (D.seen device.new) a (after_write result a block from.now) (writes_one block from.now) }
+            → StoreCall mode self.old self.new (D.seen device.old) (D.seen device.new) a (after_write result self.old.tables.shape.version a block from.now) (writes_one block from.now) }
     {
-        if block >= self.shape().blocks {
+        let shape = self.shape();
+        if block >= shape.blocks {
             return Err(Refusal::Range);
+        }
+        if !maps_block(&shape, from) {
+            return self.discard(device, block);
         }
         let Some(p) = self.lowest_free() else {
             return Err(self.full());
@@ -211,6 +261,33 @@ impl Store {
         }
         self.note_name(block);
         self.name_one(device, block, p);
+        Ok(())
+    }
+
+    /// Unmaps a block: it reads zeros from then on; after a crash it reads zeros, or what it may have read
+    /// before, until a flush. The data page that it named stays counted. A map page that can't be written
+    /// is pending until a flush.
+    ///
+    /// Costs up to two device calls, and none where the block is not mapped.
+    pub fn discard<D: Device>(&mut self, device: &mut D, block: u32) -> Result<(), Refusal>
+        requires { total self.old.tables.shape ≤ (D.seen device.old).pages }
+        ensures pages { (D.seen device.new).pages ≡ (D.seen device.old).pages }
+        ensures never_falls { (D.seen device.old).faults ≤ (D.seen device.new).faults }
+        ensures range { self.old.tables.shape.blocks ≤ block → result ≡ Err Refusal.Range }
+        ensures cause { IfErr result (λ why. DiscardCause why block self.old) }
+        ensures done { block < self.old.tables.shape.blocks → IsOk result }
+        ensures shape { self.new.tables.shape ≡ self.old.tables.shape }
+        ensures array { (mode : Mode) (a : BlockArray) → StandsFor mode self.old (D.seen device.old) a
+            → StoreCall mode self.old self.new (D.seen device.old) (D.seen device.new) a (after_discard result a block) (writes_one block zero_block) }
+    {
+        if block >= self.shape().blocks {
+            return Err(Refusal::Range);
+        }
+        if self.name_of(block) == 0 {
+            return Ok(());
+        }
+        self.mapped = self.mapped.saturating_sub(1);
+        self.name_one(device, block, 0);
         Ok(())
     }
 
@@ -274,7 +351,7 @@ impl Store {
     fn map_pages(&self) -> u32
         ensures { result ≡ map_pages self.now.tables.shape }
     {
-        self.shape.first_count_page() - 1
+        number_of_map_pages(&self.shape)
     }
 
     // Writes a map page and fixes it, where it is pending.
@@ -344,7 +421,7 @@ impl Store {
     {
         Refusal::Full {
             live: self.shape.pages,
-            waste: u64::from(self.shape.pages.saturating_sub(self.mapped)),
+            waste: self.counted.saturating_sub(u64::from(self.mapped)),
         }
     }
 
@@ -362,6 +439,7 @@ impl Store {
         let (page, entry) = self.shape.count_place(p);
         let index = (page - self.shape.first_count_page()) as usize;
         set_count_entry(&mut self.counts[index], entry, 1);
+        self.counted = self.counted.saturating_add(1);
         put(device, &mut self.calls, page, &self.counts[index])
     }
 

@@ -1,6 +1,6 @@
 -- What was asked for was done, command by command.
 use Rattle.std.proofs.Common.{◌≡◌, inl, inr, ℕ, ◌≤◌, true, false, List, refl, sym, ◌∙◌, ap, subst, arith, Result, Err}
-use Rattle.page_device.specs.Block.{Block, numbered_block}
+use Rattle.page_device.specs.Block.{Block, zero_block, numbered_block}
 use Rattle.page_device.specs.Meaning.{Meaning}
 use Rattle.trace_text.specs.declared.command.Command.{Command}
 use Rattle.trace_text.specs.declared.command.Command.TheVariants.{Write, Fill, Read, Discard, Copy, Flush, Scan, Stat, Policy, Tune, Tick}
@@ -8,19 +8,19 @@ use Rattle.trace_text.specs.declared.reply.Reply.{Reply}
 use Rattle.trace_text.specs.declared.reply.Reply.TheVariants as reply
 use Rattle.trace_text.specs.Grammar.{IsCommand}
 use Rattle.array_model.specs.Images.{Mode}
-use Rattle.array_model.specs.Array.{BlockArray, array_after, writes, last, writes_one, writes_nothing, gained, flushed}
+use Rattle.array_model.specs.Array.{BlockArray, array_after, writes, last, writes_one, writes_nothing, gained, flushed, maps}
 use Rattle.array_model.specs.Replies.{FitsReply}
 use Rattle.array_model.specs.Turns.{bad, known, Asks}
 use Rattle.dedup_writer.specs.declared.store.Refusal.{Refusal}
 use Rattle.dedup_writer.specs.declared.store.Refusal.TheVariants as refusal
 use Rattle.dedup_writer.specs.Core.{CoreView}
-use Rattle.dedup_writer.specs.Calls.{StoreCall, WriteCause, ReadCause}
+use Rattle.dedup_writer.specs.Calls.{StoreCall, WriteCause, ReadCause, DiscardCause}
 use Rattle.dedup_writer.proofs.Quiet.{nothing}
 use Rattle.session.specs.Answers.{is_built, rules_of, refusal_reply, ReplyCause, AskedDone, KnownDone, NothingDone, RunsCommand, CommandDone}
 
 module _ (mode : Mode) (a : BlockArray) (unused : List ℕ) (c0 c1 : CoreView) (d0 d1 : Meaning) where
   -- a write that was done
-  pub write_done : (block number : ℕ) → (c0.tables.shape.blocks ≤ block → ⊥) → StoreCall mode c0 c1 d0 d1 a (gained a block (numbered_block number) true) (writes_one block (numbered_block number))
+  pub write_done : (block number : ℕ) → (c0.tables.shape.blocks ≤ block → ⊥) → StoreCall mode c0 c1 d0 d1 a (gained a block (numbered_block number) (maps c0.tables.shape.version (numbered_block number))) (writes_one block (numbered_block number))
       → AskedDone mode a unused (known (Write block number)) reply.Done c0 c1 d0 d1
   unfolding FitsReply array_after writes
   write_done block number in_range call = record { fits = (λ _. tt, λ past. absurd (in_range past)); call = record { stands = call.stands; leaves = call.leaves; counted = call.counted } }
@@ -34,6 +34,35 @@ module _ (mode : Mode) (a : BlockArray) (unused : List ℕ) (c0 c1 : CoreView) (
   write_refused block number (refusal.Damaged damage) cause range call = absurd cause
   write_refused block number (refusal.Full live waste) cause range call = record { fits = (λ _. tt, range); call = record { stands = call.stands; leaves = call.leaves; counted = call.counted } }
   write_refused block number refusal.NoMemory cause range call = absurd cause
+
+  -- the same of a content
+  pub fill_done : (block : ℕ) (page : Block) → (c0.tables.shape.blocks ≤ block → ⊥) → StoreCall mode c0 c1 d0 d1 a (gained a block page (maps c0.tables.shape.version page)) (writes_one block page)
+      → AskedDone mode a unused (known (Fill block page)) reply.Done c0 c1 d0 d1
+  unfolding FitsReply array_after writes
+  fill_done block page in_range call = record { fits = (λ _. tt, λ past. absurd (in_range past)); call = record { stands = call.stands; leaves = call.leaves; counted = call.counted } }
+
+  pub fill_refused : (block : ℕ) (page : Block) (why : Refusal) → WriteCause why block c0 d0 d1 → (c0.tables.shape.blocks ≤ block → refusal_reply why ≡ reply.Range)
+      → StoreCall mode c0 c1 d0 d1 a a (writes_one block page) → AskedDone mode a unused (known (Fill block page)) (refusal_reply why) c0 c1 d0 d1
+  unfolding FitsReply array_after writes
+  fill_refused block page refusal.Range cause range call = record { fits = (λ lt. absurd (omega (arith, lt, cause)), λ past. refl); call = record { stands = call.stands; leaves = call.leaves; counted = call.counted } }
+  fill_refused block page refusal.Device cause range call = record { fits = (λ _. tt, range); call = record { stands = call.stands; leaves = call.leaves; counted = call.counted } }
+  fill_refused block page (refusal.Damaged damage) cause range call = absurd cause
+  fill_refused block page (refusal.Full live waste) cause range call = record { fits = (λ _. tt, range); call = record { stands = call.stands; leaves = call.leaves; counted = call.counted } }
+  fill_refused block page refusal.NoMemory cause range call = absurd cause
+
+  -- a discard
+  pub discard_done : (block : ℕ) → (c0.tables.shape.blocks ≤ block → ⊥) → StoreCall mode c0 c1 d0 d1 a (gained a block zero_block false) (writes_one block zero_block)
+      → AskedDone mode a unused (known (Discard block)) reply.Done c0 c1 d0 d1
+  unfolding FitsReply array_after writes
+  discard_done block in_range call = record { fits = (λ _. tt, λ past. absurd (in_range past)); call = record { stands = call.stands; leaves = call.leaves; counted = call.counted } }
+
+  pub discard_refused : (block : ℕ) (why : Refusal) → DiscardCause why block c0 → StoreCall mode c0 c1 d0 d1 a a (writes_one block zero_block) → AskedDone mode a unused (known (Discard block)) (refusal_reply why) c0 c1 d0 d1
+  unfolding FitsReply array_after writes
+  discard_refused block refusal.Range cause call = record { fits = (λ lt. absurd (omega (arith, lt, cause)), λ past. refl); call = record { stands = call.stands; leaves = call.leaves; counted = call.counted } }
+  discard_refused block refusal.Device cause call = absurd cause
+  discard_refused block (refusal.Damaged damage) cause call = absurd cause
+  discard_refused block (refusal.Full live waste) cause call = absurd cause
+  discard_refused block refusal.NoMemory cause call = absurd cause
 
   -- a read that gave bytes
   pub read_done : (block : ℕ) (content : Block) → (c0.tables.shape.blocks ≤ block → ⊥) → content ≡ last a block → StoreCall mode c0 c1 d0 d1 a a writes_nothing
@@ -91,8 +120,8 @@ one_command line command r c0 c1 d0 d1 is only cause falls runs = by command is 
     by (Write block number) is only runs = built (Write block number) is refl runs
     by (Read block) is only runs = built (Read block) is refl runs
     by Flush is only runs = built Flush is refl runs
-    by (Fill block page) is only runs = other (Fill block page) only refl runs
-    by (Discard block) is only runs = other (Discard block) only refl runs
+    by (Fill block page) is only runs = built (Fill block page) is refl runs
+    by (Discard block) is only runs = built (Discard block) is refl runs
     by (Copy from to n) is only runs = other (Copy from to n) only refl runs
     by Scan is only runs = other Scan only refl runs
     by Stat is only runs = other Stat only refl runs

@@ -132,9 +132,13 @@ module _ (s : Start) where
     later_shape : later.tables.shape ≡ s.store.tables.shape
     later_shape = same ∙ ran.shape
 
+    -- the rules of the store stay
+    array_same : array_after_asked (start_rules s) (array_done s works) done.asked answer ≡ array_after_asked (rules_of core) (array_done s works) done.asked answer
+    array_same = ap (λ (sh : ShapeView). let r : Rules = record { blocks = sh.blocks; version = sh.version; built = is_built } in array_after_asked r (array_done s works) done.asked answer) (sym ran.shape)
+
     did : Did s (works_of (turns ++ next_turn ∷ [])) e
     did = subst (λ (w : List Work). Did s w e) (sym (works_of-last turns next_turn))
-        (did_more works (answered next_turn) core later d e (array_after_asked (start_rules s) (array_done s works) done.asked answer) (asked_writes (array_done s works) done.asked) ran.did tells ran.shape later_shape asked_done.call refl refl refl)
+        (did_more works (answered next_turn) core later d e (array_after_asked (rules_of core) (array_done s works) done.asked answer) (asked_writes (array_done s works) done.asked) ran.did tells ran.shape later_shape asked_done.call refl array_same refl)
 
     array_now : array_done s (works_of (turns ++ next_turn ∷ [])) ≡ array_after_asked (start_rules s) (array_done s works) done.asked answer
     array_now = ap (array_done s) (works_of-last turns next_turn) ∙ array-last (left_mode s.mode) (start_rules s) s.array works (answered next_turn)
@@ -148,7 +152,7 @@ module _ (s : Start) where
     fits : FitsAsked (start_rules s) (state_after_turns (start_rules s) (start_state s) turns) done.asked answer
     fits = subst (λ (a : BlockArray). FitsAsked (start_rules s) (record { array = a; unused = (state_after_turns (start_rules s) (start_state s) turns).unused }) done.asked answer)
         (sym (array_is (left_mode s.mode) (start_rules s) (start_state s) turns))
-        (subst (λ (sh : ShapeView). let r : Rules = record { blocks = sh.blocks; version = 1; built = is_built } in FitsAsked r (record { array = array_done s works; unused = (state_after_turns (start_rules s) (start_state s) turns).unused }) done.asked answer) ran.shape asked_done.fits)
+        (subst (λ (sh : ShapeView). let r : Rules = record { blocks = sh.blocks; version = sh.version; built = is_built } in FitsAsked r (record { array = array_done s works; unused = (state_after_turns (start_rules s) (start_state s) turns).unused }) done.asked answer) ran.shape asked_done.fits)
 
     asks : Asks (start_rules s) line done.asked
     asks = asks_whole (start_rules s) line done.asked (asks_same done.asked done.asks)
@@ -161,7 +165,7 @@ module _ (s : Start) where
     pub ran_more : Ran s (turns ++ next_turn ∷ []) later e
     ran_more = record {
       did = did;
-      stands = subst (StandsFor s.mode later e) (sym array_now) asked_done.call.stands;
+      stands = subst (StandsFor s.mode later e) (sym (array_now ∙ array_same)) asked_done.call.stands;
       shape = later_shape;
       counted = counts_same (length (calls_done s works) + length asked_done.call.leaves.calls) _ s.store.calls later.calls (sym (ap length calls_now ∙ length-append (calls_done s works) asked_done.call.leaves.calls))
           (counts_then (length (calls_done s works)) (length asked_done.call.leaves.calls) s.store.calls core.calls later.calls ran.counted asked_done.call.counted);

@@ -4,7 +4,7 @@ use Rattle.byte_ports.specs.Sink.{SinkMeaning, Takes, TakesFront}
 use Rattle.trace_text.specs.Texts.{text_of}
 use Rattle.page_device.specs.Meaning.{Meaning}
 use Rattle.trace_text.specs.declared.command.Command.{Command}
-use Rattle.trace_text.specs.declared.command.Command.TheVariants.{Write, Read, Flush}
+use Rattle.trace_text.specs.declared.command.Command.TheVariants.{Write, Fill, Read, Discard, Flush}
 use Rattle.trace_text.specs.declared.reply.Reply.{Reply}
 use Rattle.trace_text.specs.declared.reply.Reply.TheVariants as reply
 use Rattle.array_model.specs.Images.{Mode}
@@ -19,13 +19,15 @@ use Rattle.dedup_writer.specs.Stands.{StandsFor}
 -- the commands that are built
 abbrev pub is_built : Command → Bool
 is_built (Write block number) = true
+is_built (Fill block page) = true
 is_built (Read block) = true
+is_built (Discard block) = true
 is_built Flush = true
 is_built command = false
 
--- the rules of a session over a store: images of version 1
+-- the rules of a session over a store
 abbrev pub rules_of : CoreView → Rules
-rules_of core = record { blocks = core.tables.shape.blocks; version = 1; built = is_built }
+rules_of core = record { blocks = core.tables.shape.blocks; version = core.tables.shape.version; built = is_built }
 
 -- what a refusal is answered
 abbrev pub refusal_reply : Refusal → Reply
@@ -58,6 +60,8 @@ NothingDone r old new d e = (r ≡ reply.Bad) × (new ≡ old) × (e ≡ d)
 
 abbrev pub RunsCommand : Command → Reply → CoreView → CoreView → Meaning → Meaning → Type 0
 RunsCommand (Write block number) r old new d e = KnownDone (Write block number) r old new d e
+RunsCommand (Fill block page) r old new d e = KnownDone (Fill block page) r old new d e
+RunsCommand (Discard block) r old new d e = KnownDone (Discard block) r old new d e
 RunsCommand (Read block) r old new d e = KnownDone (Read block) r old new d e
 RunsCommand Flush r old new d e = KnownDone Flush r old new d e
 RunsCommand command r old new d e = NothingDone r old new d e

@@ -4,13 +4,14 @@ use Rattle.byte_ports.specs.Source.{SourceMeaning}
 use Rattle.byte_ports.specs.Sink.{SinkMeaning}
 use Rattle.page_device.specs.Disk.{at_rest}
 use Rattle.page_device.specs.Meaning.{Meaning}
-use Rattle.page_layout.specs.Tables.{IsFresh}
-use Rattle.array_model.specs.Images.{Mode}
+use Rattle.array_model.specs.Images.{Mode, IsFit, IsGood}
 use Rattle.array_model.specs.Array.{array_start}
 use Rattle.dedup_writer.specs.Core.{CoreView}
 use Rattle.session.specs.declared.status.Status.{Status}
 use Rattle.session.specs.declared.status.Status.TheVariants.{Usage}
-use Rattle.session.specs.Opening.{Looked, TellsShape, Holds, OpenCause}
+use Rattle.mount_reader.specs.Looked.{Looked, Holds}
+use Rattle.mount_reader.specs.Mount.{TellsShape}
+use Rattle.session.specs.Opening.{OpenCause}
 use Rattle.session.specs.Endings.{LastPut, EndsAs, Served}
 
 -- `trace`
@@ -38,11 +39,11 @@ pub record Opened (status : Status) (d d' : Meaning) (source source' : SourceMea
   pub looked : Looked d begun
   pub faults : d.faults ≤ begun.faults
   pub calls : store.calls ≡ 0
-  pub fresh : Holds IsFresh d
+  pub fit : Holds IsFit d
   pub shape : Holds (TellsShape store.tables.shape) d
   pub status_is : EndsAs status
-  -- over an honest device that tells its pages and has nothing pending, from the array of its image
-  pub served : d.honest ≡ true → d.tells_pages ≡ true → d.state ≡ at_rest d.state.fixed → (mode : Mode) (unused : List ℕ)
+  -- over an honest device that tells its pages and has nothing pending, from the array of its image, which is good in this mode
+  pub served : d.honest ≡ true → d.tells_pages ≡ true → d.state ≡ at_rest d.state.fixed → (mode : Mode) → IsGood mode d.state.fixed → (unused : List ℕ)
       → Served (record { mode = mode; array = array_start d.state.fixed; unused = unused; store = store; device = begun; sink = sink }) status core d' source source' sink'
 
 -- what a session over the image of a device does

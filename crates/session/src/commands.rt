@@ -40,6 +40,38 @@ fn write_numbered<D: Device>(store: &mut Store, device: &mut D, block: u32, numb
     }
 }
 
+// The block gets a content.
+fn fill_block<D: Device>(store: &mut Store, device: &mut D, block: u32, page: &Page) -> Reply
+    requires { total store.old.tables.shape ≤ (D.seen device.old).pages }
+    ensures never_falls { (D.seen device.old).faults ≤ (D.seen device.new).faults }
+    ensures cause { ReplyCause result store.old (D.seen device.old) (D.seen device.new) }
+    ensures pages { (D.seen device.new).pages ≡ (D.seen device.old).pages }
+    ensures shape { store.new.tables.shape ≡ store.old.tables.shape }
+    ensures done { (mode : Mode) (a : BlockArray) (unused : List ℕ) → StandsFor mode store.old (D.seen device.old) a
+        → AskedDone mode a unused (known (Command.Fill block page.now)) result store.old store.new (D.seen device.old) (D.seen device.new) }
+{
+    match store.write(device, block, page) {
+        Ok(()) => Reply::Done,
+        Err(why) => refused(why),
+    }
+}
+
+// The block is unmapped.
+fn discard_block<D: Device>(store: &mut Store, device: &mut D, block: u32) -> Reply
+    requires { total store.old.tables.shape ≤ (D.seen device.old).pages }
+    ensures never_falls { (D.seen device.old).faults ≤ (D.seen device.new).faults }
+    ensures cause { ReplyCause result store.old (D.seen device.old) (D.seen device.new) }
+    ensures pages { (D.seen device.new).pages ≡ (D.seen device.old).pages }
+    ensures shape { store.new.tables.shape ≡ store.old.tables.shape }
+    ensures done { (mode : Mode) (a : BlockArray) (unused : List ℕ) → StandsFor mode store.old (D.seen device.old) a
+        → AskedDone mode a unused (known (Command.Discard block)) result store.old store.new (D.seen device.old) (D.seen device.new) }
+{
+    match store.discard(device, block) {
+        Ok(()) => Reply::Done,
+        Err(why) => refused(why),
+    }
+}
+
 // The content of a block.
 fn read_block<D: Device>(store: &mut Store, device: &mut D, block: u32) -> Reply
     requires { total store.old.tables.shape ≤ (D.seen device.old).pages }
@@ -84,6 +116,8 @@ fn run_command<D: Device>(store: &mut Store, device: &mut D, command: &Command) 
 {
     match command {
         Command::Write { block, number } => write_numbered(store, device, *block, *number),
+        Command::Fill { block, page } => fill_block(store, device, *block, page),
+        Command::Discard { block } => discard_block(store, device, *block),
         Command::Read { block } => read_block(store, device, *block),
         Command::Flush => flush_all(store, device),
         _ => Reply::Bad,

@@ -1,115 +1,47 @@
 // An image is opened.
-ghost use Rattle.std.specs.Prelude.{◌≡◌, ◌↔◌, ◌≤◌, ◌<◌, ℕ, true, false, length, IsTrue, IfOk, IfErr, Ok};
-ghost use Rattle.page_device.specs.Block.{zero_block};
-ghost use Rattle.page_device.specs.Disk.{at_rest, newest};
-ghost use Rattle.page_device.specs.Meaning.{HasCause};
+ghost use Rattle.std.specs.Prelude.{◌≡◌, ◌≤◌, true, IfOk, IfErr};
+ghost use Rattle.page_device.specs.Disk.{at_rest};
+ghost use Rattle.page_device.specs.Meaning.{Meaning};
 ghost use Rattle.page_layout.specs.Shape.{total};
-ghost use Rattle.page_layout.specs.Tables.{IsFresh};
 ghost use Rattle.array_model.specs.Array.{array_start};
-ghost use Rattle.array_model.specs.Images.{Mode};
+ghost use Rattle.array_model.specs.Images.{Mode, IsFit, IsGood};
 ghost use Rattle.dedup_writer.specs.Stands.{StandsFor};
-ghost use Rattle.session.specs.Opening.{Looked, ZeroUpTo, TellsShape, Holds, OpenCause};
+ghost use Rattle.mount_reader.specs.Looked.{Looked, Holds};
+ghost use Rattle.mount_reader.specs.Mount.{TellsShape, MountCause};
+ghost use Rattle.session.specs.Opening.{OpenCause};
 
 use crate::status::Status;
 use dedup_writer::Store;
-use page_device::{Device, Failed, Page};
-use page_layout::{Shape, read_super};
+use mount_reader::{MountError, mount};
+use page_device::Device;
 use std::alloc::Global;
 
-// Each byte of the page is zero.
-fn is_zero(page: &Page) -> bool
-    ensures { IsTrue result ↔ (page.now ≡ zero_block) }
+// How a session ends whose image does not mount.
+fn status_of(why: MountError) -> Status
+    ensures { (d e : Meaning) → MountCause why d e → OpenCause result d e }
 {
-    page.0 == [0; 4096]
-}
-
-// Whether the pages from 1 to before this one are zero.
-fn are_zero<D: Device>(device: &mut D, end: u32) -> Result<bool, Failed>
-    requires { end ≤ (D.seen device.old).pages }
-    ensures cause { HasCause result (D.seen device.old) (D.seen device.new) }
-    ensures looked { Looked (D.seen device.old) (D.seen device.new) }
-    ensures pages { (D.seen device.new).pages ≡ (D.seen device.old).pages }
-    ensures zero { result ≡ Ok true → Holds (ZeroUpTo end) (D.seen device.old) }
-    ensures other { result ≡ Ok false → Holds (λ image. ¬ ZeroUpTo end image) (D.seen device.old) }
-{
-    let mut page = Page::zero();
-    for k in 1..end {
-        match device.read(k, &mut page) {
-            Ok(()) => {
-                if !is_zero(&page) {
-                    return Ok(false);
-                }
-            }
-            Err(failed) => return Err(failed),
-        }
-    }
-    Ok(true)
-}
-
-// The shape that the superblock tells.
-fn told_shape<D: Device>(device: &mut D) -> Result<Shape, Status>
-    ensures never_falls { (D.seen device.old).faults ≤ (D.seen device.new).faults }
-    ensures looked { Looked (D.seen device.old) (D.seen device.new) }
-    ensures cause { IfErr result (λ status. OpenCause status (D.seen device.old) (D.seen device.new)) }
-    ensures found { IfOk result (λ shape. Holds (TellsShape shape) (D.seen device.old)) }
-{
-    match device.room(0) {
-        Ok(()) => {}
-        Err(_) => return Err(Status::DeviceFault),
-    }
-    if device.pages() == 0 {
-        return Err(Status::BadImage);
-    }
-    let mut page = Page::zero();
-    match device.read(0, &mut page) {
-        Ok(()) => {}
-        Err(_) => return Err(Status::DeviceFault),
-    }
-    match read_super(&page) {
-        Ok(shape) => Ok(shape),
-        Err(_) => Err(Status::BadImage),
+    match why {
+        MountError::Device => Status::DeviceFault,
+        MountError::NotFormatted => Status::NotFormatted,
+        MountError::Damaged(damage) => Status::Damaged(damage),
+        MountError::NoMemory => Status::NoMemory,
     }
 }
 
-// The shape of a fresh image of version 1.
-fn fresh_shape<D: Device>(device: &mut D) -> Result<Shape, Status>
-    ensures never_falls { (D.seen device.old).faults ≤ (D.seen device.new).faults }
-    ensures looked { Looked (D.seen device.old) (D.seen device.new) }
-    ensures cause { IfErr result (λ status. OpenCause status (D.seen device.old) (D.seen device.new)) }
-    ensures version { IfOk result (λ shape. shape.version ≡ 1) }
-    ensures enough { IfOk result (λ shape. total shape ≤ (D.seen device.new).pages) }
-    ensures shape { IfOk result (λ shape. Holds (TellsShape shape) (D.seen device.old)) }
-    ensures fresh { IfOk result (λ _. Holds IsFresh (D.seen device.old)) }
-{
-    let shape = told_shape(device)?;
-    if shape.version != 1 {
-        return Err(Status::BadImage);
-    }
-    if device.pages() < shape.total() {
-        return Err(Status::BadImage);
-    }
-    match are_zero(device, shape.first_data_page()) {
-        Ok(true) => Ok(shape),
-        Ok(false) => Err(Status::BadImage),
-        Err(_) => Err(Status::DeviceFault),
-    }
-}
-
-// Opens a fresh image of version 1.
-pub fn open_fresh<D: Device>(alloc: Global, device: &mut D) -> Result<Store, Status>
+// Opens the image of a device.
+pub fn open<D: Device>(alloc: Global, device: &mut D) -> Result<Store, Status>
     ensures looked { Looked (D.seen device.old) (D.seen device.new) }
     ensures never_falls { (D.seen device.old).faults ≤ (D.seen device.new).faults }
     ensures cause { IfErr result (λ status. OpenCause status (D.seen device.old) (D.seen device.new)) }
     ensures enough { IfOk result (λ store. total store.tables.shape ≤ (D.seen device.new).pages) }
     ensures calls { IfOk result (λ store. store.calls ≡ 0) }
-    ensures fresh { IfOk result (λ _. Holds IsFresh (D.seen device.old)) }
+    ensures fit { IfOk result (λ _. Holds IsFit (D.seen device.old)) }
     ensures shape { IfOk result (λ store. Holds (TellsShape store.tables.shape) (D.seen device.old)) }
     ensures stands { IfOk result (λ store. (D.seen device.old).honest ≡ true → (D.seen device.old).tells_pages ≡ true → (D.seen device.old).state ≡ at_rest (D.seen device.old).state.fixed
-        → (mode : Mode) → StandsFor mode store (D.seen device.new) (array_start (D.seen device.old).state.fixed)) }
+        → (mode : Mode) → IsGood mode (D.seen device.old).state.fixed → StandsFor mode store (D.seen device.new) (array_start (D.seen device.old).state.fixed)) }
 {
-    let shape = fresh_shape(device)?;
-    match Store::fresh(alloc, shape) {
+    match mount(alloc, device) {
         Ok(store) => Ok(store),
-        Err(_) => Err(Status::NoMemory),
+        Err(why) => Err(status_of(why)),
     }
 }

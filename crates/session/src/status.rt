@@ -1,10 +1,12 @@
 // How a session ends.
 ghost use Rattle.std.specs.Prelude.{◌≡◌, ◌≤◌, ◌<◌, ◌+◌, ◌^◌};
 ghost use Rattle.session.specs.Endings.{LastPut};
-ghost use Rattle.session.specs.Statuses.{last_text};
+ghost use Rattle.session.specs.Statuses.{fixed_text, last_text};
 ghost use Rattle.session.specs.declared.status.Status.TheVariants.{SinkFault};
 
 use byte_ports::{Sink, put_all};
+use page_device::Damage;
+use trace_text::{LineBuf, damage_text};
 
 /// How a session ended. The number of each is the program's exit status.
 #[derive(Clone, Copy, Debug, PartialEq, Eq, Drop)]
@@ -19,8 +21,10 @@ pub enum Status {
     SinkFault,
     /// 5: the device failed while the image was opened or the session closed.
     DeviceFault,
-    /// 6: the image is not a fresh one of version 1.
-    BadImage,
+    /// 6: the device holds no image.
+    NotFormatted,
+    /// 6: the image is not fit: this is its first entry that no fit image has.
+    Damaged(Damage),
     /// 7: there was no memory for the tables.
     NoMemory,
     /// 8: 2^40 bytes of input were taken.
@@ -40,24 +44,37 @@ impl Status {
             Status::SourceFault => 3,
             Status::SinkFault => 4,
             Status::DeviceFault => 5,
-            Status::BadImage => 6,
+            Status::NotFormatted | Status::Damaged(_) => 6,
             Status::NoMemory => 7,
             Status::InputLimit => 8,
         }
     }
 }
 
-// The last line that a session puts.
-fn last_text(status: Status) -> &'static [u8]
-    ensures { result.now ≡ last_text status }
+// The last line of a status that always puts the same one.
+fn fixed_text(status: Status) -> &'static [u8]
+    ensures { result.now ≡ fixed_text status }
 {
     match status {
         Status::SourceFault => b"source fault\n",
         Status::DeviceFault => b"device fault\n",
-        Status::BadImage => b"not formatted\n",
+        Status::NotFormatted => b"not formatted\n",
         Status::NoMemory => b"no memory\n",
         Status::InputLimit => b"input limit\n",
-        Status::Done | Status::Usage | Status::SinkFault => b"",
+        Status::Done | Status::Usage | Status::SinkFault | Status::Damaged(_) => b"",
+    }
+}
+
+// The last line of a status. `line` is room for it.
+fn last_text(status: Status, line: &mut LineBuf) -> &[u8]
+    ensures { result.now ≡ last_text status }
+{
+    match status {
+        Status::Damaged(damage) => {
+            damage_text(damage, line);
+            line.bytes()
+        }
+        other => fixed_text(other),
     }
 }
 
@@ -68,7 +85,8 @@ pub fn end_with<K: Sink>(wanted: Status, sink: &mut K) -> Status
     ensures status { ¬ (result ≡ SinkFault) → result ≡ wanted }
     ensures put { LastPut wanted result (K.seen sink.old) (K.seen sink.new) }
 {
-    match put_all(sink, last_text(wanted)) {
+    let mut line = LineBuf::new();
+    match put_all(sink, last_text(wanted, &mut line)) {
         Ok(()) => wanted,
         Err(_) => Status::SinkFault,
     }

@@ -73,6 +73,6 @@ fn tells_what_is_not_formatted(rt: HostRuntime) -> Result<(), Fail> {
     let mut device = MemDevice::holding(rt.alloc(), Vec::new(rt.alloc()));
     device.room(8)?;
     let end = ends(rt.alloc(), &mut device, "r 0\n", "not formatted\n")?;
-    assert_eq!(rt; end, (Status::BadImage, true));
+    assert_eq!(rt; end, (Status::NotFormatted, true));
     Ok(())
 }

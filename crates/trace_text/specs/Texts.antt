@@ -1,6 +1,7 @@
 -- What commands and replies read.
 use Rattle.std.specs.Prelude.{ℕ, ◌==◌, if◌then◌else◌, List, [], ◌∷◌, ◌++◌, codes, decimal}
 use Rattle.hex.specs.Hex.{encode_lower}
+use Rattle.page_device.specs.declared.error.Damage.{Damage}
 use Rattle.trace_text.specs.declared.command.Command.{Command}
 use Rattle.trace_text.specs.declared.command.Command.TheVariants.{Write, Fill, Read, Discard, Copy, Flush, Scan, Stat, Policy, Tune, Tick}
 use Rattle.trace_text.specs.declared.reply.Halt.{Halt}
@@ -72,6 +73,10 @@ reply_words reply.NoPolicy = codes "nopolicy"
 reply_words reply.Bad = codes "bad"
 reply_words reply.Overlap = codes "overlap"
 reply_words (reply.Stopped done why) = codes "stopped " ++ decimal done ++ codes " " ++ halt_words why
+
+-- the line that names a malformed entry
+abbrev pub damage_line : Damage → List ℕ
+damage_line damage = reply_words (reply.Damaged damage) ++ line_feed
 
 -- the whole text of a reply: the number of device writes and barriers so far, the words, and the end of the line
 abbrev pub text_of : ℕ → Reply → List ℕ

@@ -21,7 +21,7 @@ pub use line_buf::LineBuf;
 pub use lines::command_text;
 pub use number::read_number;
 pub use parsing::{Bad, parse};
-pub use replies::reply_text;
+pub use replies::{damage_text, reply_text};
 pub use reply::{Halt, Reply, ScanReport, Stat};
 
 #[cfg(test)]

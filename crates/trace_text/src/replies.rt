@@ -2,7 +2,7 @@
 #![tactic(auto, unfolding(crate::specs::Texts::reply_words, crate::specs::Texts::halt_words))]
 
 ghost use Rattle.std.specs.Prelude.{◌≡◌, ◌+◌, ◌≤◌, ◌++◌, length};
-ghost use Rattle.trace_text.specs.Texts.{halt_words, reply_words, text_of};
+ghost use Rattle.trace_text.specs.Texts.{halt_words, reply_words, damage_line, text_of};
 
 use crate::contents::put_hex_or_dash;
 use crate::{Halt, LineBuf, Reply, ScanReport, Stat};
@@ -105,6 +105,16 @@ fn put_reply(reply: &Reply, into: &mut LineBuf)
         Reply::Overlap => into.put(b"overlap"),
         Reply::Stopped { done, why } => put_stopped(*done, why, into),
     }
+}
+
+/// Puts a line that names a malformed entry in place of what a buffer held: `damaged`, its page and its
+/// place in the page, and LF. Takes no memory. Constant.
+pub fn damage_text(damage: Damage, into: &mut LineBuf)
+    ensures { into.new ≡ damage_line damage }
+{
+    into.clear();
+    put_damage(damage, into);
+    into.put(b"\n");
 }
 
 /// Puts the line of a reply in place of what a buffer held: the number of device writes and barriers

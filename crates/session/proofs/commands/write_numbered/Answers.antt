@@ -2,7 +2,7 @@ use Rattle.std.proofs.Common.{sym, subst, refl, true, Err}
 use Rattle.page_device.specs.Block.{Block}
 use Rattle.trace_text.specs.declared.reply.Reply.{Reply}
 use Rattle.array_model.specs.Turns.{known}
-use Rattle.array_model.specs.Array.{gained, writes_one}
+use Rattle.array_model.specs.Array.{gained, maps, writes_one}
 use Rattle.trace_text.specs.declared.command.Command.TheVariants.{Write}
 use Rattle.dedup_writer.specs.Calls.{StoreCall}
 use Rattle.session.specs.Answers.{AskedDone}
@@ -15,7 +15,7 @@ returns-in-Ok-clause-done g c = λ mode a unused sf.
     let d1 = g.D.Device.seen c.write.new.device in
     write_done mode a unused c.args.store.now c.write.new.self d0 d1 c.args.block c.args.number
     (λ past. cc (c.in-Ok.ensures.range past))
-    (subst (λ (b : Block). StoreCall mode c.args.store.now c.write.new.self d0 d1 a (gained a c.args.block b true) (writes_one c.args.block b)) c.numbered.ensures (c.in-Ok.ensures.array mode a sf))
+    (subst (λ (b : Block). StoreCall mode c.args.store.now c.write.new.self d0 d1 a (gained a c.args.block b (maps c.args.store.now.tables.shape.version b)) (writes_one c.args.block b)) c.numbered.ensures (c.in-Ok.ensures.array mode a sf))
 
 pub returns-in-Err-clause-done : goal.returns-in-Err-clause-done
 returns-in-Err-clause-done g c = λ mode a unused sf.

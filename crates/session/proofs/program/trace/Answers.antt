@@ -7,18 +7,18 @@ pub returns-in-Ok-clause-device_cause : goal.returns-in-Ok-clause-device_cause
 returns-in-Ok-clause-device_cause g c = λ is few. ⊎_elim
     (λ risen. omega (arith, risen, c.serve_trace.ensures.never_falls))
     (λ still. omega (arith, still, c.in-Ok.ensures.never_falls, c.serve_trace.ensures.device_cause is (omega (arith, still, few, c.in-Ok.ensures.never_falls))))
-    (cases_lt (g.D.Device.seen c.args.device.now).faults (g.D.Device.seen c.open_fresh.new.device).faults)
+    (cases_lt (g.D.Device.seen c.args.device.now).faults (g.D.Device.seen c.open.new.device).faults)
 
 pub returns-in-Ok-clause-outcome : goal.returns-in-Ok-clause-outcome
 returns-in-Ok-clause-outcome g c = opened (record {
   store = c.in-Ok.store;
-  begun = g.D.Device.seen c.open_fresh.new.device;
+  begun = g.D.Device.seen c.open.new.device;
   core = c.serve_trace.new.store;
   looked = c.in-Ok.ensures.looked;
   faults = c.in-Ok.ensures.never_falls;
   calls = c.in-Ok.ensures.calls;
-  fresh = c.in-Ok.ensures.fresh;
+  fit = c.in-Ok.ensures.fit;
   shape = c.in-Ok.ensures.shape;
   status_is = c.serve_trace.ensures.one_of;
-  served = λ honest tells rest mode unused. c.serve_trace.ensures.served mode _ unused (c.in-Ok.ensures.stands honest tells rest mode);
+  served = λ honest tells rest mode good unused. c.serve_trace.ensures.served mode _ unused (c.in-Ok.ensures.stands honest tells rest mode good);
 })

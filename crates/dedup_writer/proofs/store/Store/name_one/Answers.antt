@@ -10,7 +10,7 @@ use Rattle.dedup_writer.specs.Calls.{NamesOne}
 use Rattle.dedup_writer.specs.Put.{PutsCounted}
 use Rattle.dedup_writer.proofs.Places.{number_index}
 use Rattle.dedup_writer.proofs.Lookups.{page_read}
-use Rattle.dedup_writer.proofs.Named.{whole_named}
+use Rattle.dedup_writer.proofs.Renamed.{whole_renamed}
 use Rattle.dedup_writer.proofs.store.Store.name_one.Goals as goal
 
 -- the entry that was set is the block's
@@ -34,7 +34,7 @@ invariant_of-self g c =
     let within : i < length inside.maps.items = omega (arith, same, number_index c.args.block inside.shape.blocks lt, c.self.invariant.pages.maps) in
     let sets = sets_here inside.maps.items c.args.block i c.map_place-page.result.1 c.args.p c.index_mut.result.now c.set_map_entry.new.page same c.map_place-page.ensures.entry within c.index_mut.ensures.value c.set_map_entry.ensures in
     subst (λ (n : ℕ). let r : CachedTables = record { shape = inside.shape; maps = slice_set inside.maps.items n c.set_map_entry.new.page; counts = inside.counts.items; pending = slice_set (slice_set inside.pending.items n true) n c.is_err.result } in IsWhole r inside.next) (sym same)
-    (whole_named t inside.next c.args.block c.args.p c.set_map_entry.new.page (slice_set (slice_set inside.pending.items (map_index c.args.block) true) (map_index c.args.block) c.is_err.result) c.self.invariant lt le sets
+    (whole_renamed t inside.next c.args.block c.args.p c.set_map_entry.new.page (slice_set (slice_set inside.pending.items (map_index c.args.block) true) (map_index c.args.block) c.is_err.result) c.self.invariant lt le sets
     (length-set (slice_set inside.pending.items (map_index c.args.block) true) (map_index c.args.block) c.is_err.result ∙ length-set inside.pending.items (map_index c.args.block) true))
 
 -- the page that was read back is the one that was put

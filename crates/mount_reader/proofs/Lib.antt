@@ -1,0 +1,6 @@
+pub mod Looking
+pub mod Entries
+pub mod Names
+pub mod Firsts
+pub mod Pushed
+pub mod Fits
