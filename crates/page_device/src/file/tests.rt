@@ -11,7 +11,7 @@ use std::test::Fail;
 use std::{fs, io};
 
 // What is done to the device, or behind its back.
-#[derive(Clone, Copy, Debug, Drop)]
+#[derive(Clone, Copy, Drop)]
 enum Step {
     Room(u32),
     Put(u32, u64),
@@ -108,7 +108,13 @@ const UNSYNCED_FILE: [(Step, Answer); 22] = [
     (Step::Got(0), (Err(Failed), 1, 4)),
 ];
 
-// A missing folder, a folder, and no path at all.
+// Paths that do not open: in a missing folder, of a folder, and none at all.
+const UNOPENED: [(Step, Answer); 3] = [
+    (Step::Room(0), (Err(Failed), 0, 1)),
+    (Step::Flush, (Err(Failed), 0, 2)),
+    (Step::Room(1), (Err(Failed), 0, 3)),
+];
+
 const UNUSABLE: [&str; 3] = ["no_such_folder/image", ".", ""];
 
 // What is wrong with the files of a system.
@@ -266,6 +272,19 @@ fn answer<'r, R: Files>(device: &mut FileDevice<'r, R>, step: Step) -> Answer {
     (done, device.pages(), device.faults)
 }
 
+// Does these steps, and gives the number of the first one that answers another thing, counted from 0.
+fn first_wrong<'r, R: Files>(
+    device: &mut FileDevice<'r, R>,
+    steps: &[(Step, Answer)],
+) -> Option<usize> {
+    for (i, row) in steps.iter().enumerate() {
+        if answer(device, row.0) != row.1 {
+            return Some(i);
+        }
+    }
+    None
+}
+
 // The device of a path at which there is no file.
 fn no_file<'r, R: Files>(rt: &'r R, alloc: Global, path: &str) -> Result<FileDevice<'r, R>, Fail> {
     if rt.metadata(path).is_ok() {
@@ -278,9 +297,7 @@ fn no_file<'r, R: Files>(rt: &'r R, alloc: Global, path: &str) -> Result<FileDev
 fn keeps_its_pages(rt: HostRuntime) -> Result<(), Fail> {
     let path = "page_device_own.img";
     let mut device = no_file(&rt, rt.alloc(), path)?;
-    for (step, wanted) in OWN_FILE {
-        assert_eq!(rt; answer(&mut device, step), wanted, "at {step:?}");
-    }
+    assert_eq!(rt; first_wrong(&mut device, &OWN_FILE), None);
     fs::remove_file(&rt, path)?;
     Ok(())
 }
@@ -289,9 +306,7 @@ fn keeps_its_pages(rt: HostRuntime) -> Result<(), Fail> {
 fn notices_what_others_do(rt: HostRuntime) -> Result<(), Fail> {
     let path = "page_device_shared.img";
     let mut device = no_file(&rt, rt.alloc(), path)?;
-    for (step, wanted) in SHARED_FILE {
-        assert_eq!(rt; answer(&mut device, step), wanted, "at {step:?}");
-    }
+    assert_eq!(rt; first_wrong(&mut device, &SHARED_FILE), None);
     fs::remove_file(&rt, path)?;
     Ok(())
 }
@@ -305,9 +320,7 @@ fn counts_what_a_read_only_file_refuses(rt: HostRuntime) -> Result<(), Fail> {
         trouble: Trouble::ReadOnly,
     };
     let mut device = FileDevice::named(&files, String::from_str(rt.alloc(), path)?);
-    for (step, wanted) in READ_ONLY_FILE {
-        assert_eq!(rt; answer(&mut device, step), wanted, "at {step:?}");
-    }
+    assert_eq!(rt; first_wrong(&mut device, &READ_ONLY_FILE), None);
     fs::remove_file(&rt, path)?;
     Ok(())
 }
@@ -320,9 +333,7 @@ fn ends_at_a_failed_sync(rt: HostRuntime) -> Result<(), Fail> {
         trouble: Trouble::SyncsAtMost(4096),
     };
     let mut device = no_file(&files, rt.alloc(), path)?;
-    for (step, wanted) in UNSYNCED_FILE {
-        assert_eq!(rt; answer(&mut device, step), wanted, "at {step:?}");
-    }
+    assert_eq!(rt; first_wrong(&mut device, &UNSYNCED_FILE), None);
     fs::remove_file(&rt, path)?;
     Ok(())
 }
@@ -331,16 +342,7 @@ fn ends_at_a_failed_sync(rt: HostRuntime) -> Result<(), Fail> {
 fn counts_a_path_that_does_not_open(rt: HostRuntime) -> Result<(), Fail> {
     for path in UNUSABLE {
         let mut device = FileDevice::named(&rt, String::from_str(rt.alloc(), path)?);
-        assert_eq!(rt;
-            answer(&mut device, Step::Room(0)),
-            (Err(Failed), 0, 1),
-            "of '{path}'"
-        );
-        assert_eq!(rt;
-            answer(&mut device, Step::Flush),
-            (Err(Failed), 0, 2),
-            "of '{path}'"
-        );
+        assert_eq!(rt; first_wrong(&mut device, &UNOPENED), None, "of '{path}'");
     }
     Ok(())
 }
