@@ -1,21 +1,21 @@
--- What one call of a policy does: of the five kinds exactly what their rows say, of every other label anything in range.
+-- What one call of a policy does: a policy of the five kinds does what specs/Kinds.antt says, one with another label anything in range.
 use Rattle.std.specs.Prelude.{◌≡◌, ℕ, ◌<◌, Bool, List, length, [], Option, None, Some, IfSome, false, refl}
 use Rattle.std.proofs.Common.{◌∙◌, arith}
 use Rattle.merge_policy.specs.declared.policy.Offer.{Offer}
-use Rattle.merge_policy.specs.declared.labels.TheConstants.{HOLD, FIRST_OWN}
+use Rattle.merge_policy.specs.declared.labels.TheConstants.{HOLD}
 use Rattle.merge_policy.specs.Meaning.{PolicyMeaning}
 use Rattle.merge_policy.specs.Kinds.{choice, barred, tuned, asked, told}
 
 -- it has the label of one of the five kinds
 abbrev pub IsKnown : PolicyMeaning → Type 0
-IsKnown policy = policy.label < FIRST_OWN
+IsKnown policy = policy.label < 5
 
 -- it keeps its label, and where that is known it is afterwards as said
 pub record Becomes (after old new : PolicyMeaning) : Type 0 where
   pub label : new.label ≡ old.label
   pub known : IsKnown old → new ≡ after
 
--- `tune`
+-- what `tune` does
 abbrev pub IsTuned : ℕ → PolicyMeaning → PolicyMeaning → Type 0
 IsTuned n old new = Becomes (tuned old n) old new
 
@@ -24,12 +24,12 @@ pub record IsChoice (offers : List Offer) (answer : Option ℕ) (policy : Policy
   pub in_range : IfSome answer (λ place. place < length offers)
   pub known : IsKnown policy → answer ≡ choice policy offers
 
--- `pick`
+-- what `pick` does
 pub record Picks (offers : List Offer) (answer : Option ℕ) (old new : PolicyMeaning) : Type 0 where
   pub chosen : IsChoice offers answer old
   pub policy : Becomes (asked old offers) old new
 
--- `wrote`
+-- what `wrote` does
 abbrev pub IsTold : ℕ → PolicyMeaning → PolicyMeaning → Type 0
 IsTold edits old new = Becomes (told old edits) old new
 
@@ -37,7 +37,7 @@ IsTold edits old new = Becomes (told old edits) old new
 abbrev pub IsBarred : ℕ → Bool → PolicyMeaning → Type 0
 IsBarred hung answer policy = IsKnown policy → answer ≡ barred policy hung
 
--- `barrier`
+-- what `barrier` does
 pub record Bars (hung : ℕ) (answer : Bool) (old new : PolicyMeaning) : Type 0 where
   pub barred : IsBarred hung answer old
   pub policy : Becomes old old new

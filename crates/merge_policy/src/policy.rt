@@ -27,8 +27,8 @@ pub struct Offer {
 /// 2. Where `pick` gives a position, the page there is written. Where that succeeded, `wrote` is told the edits of its offer. Then 1
 ///    comes again with a new list. The page is not in it any more, and a page that waited for it is not in it yet.
 /// 3. Where `pick` gives none and some page is hung, that is, was written since the last barrier, `barrier` is asked with the number
-///    of hung pages, which is at least 1. On `true` a barrier is made, and 1 comes again: the pages that waited for what was written
-///    may be in the list now.
+///    of hung pages, which is at least 1. On `true` a barrier is made, and 1 comes again. In the list may be now the pages that
+///    waited for what was written, and pages that the store changes itself once a barrier is made.
 /// 4. Else the step ends. It ends too at a write or a barrier that fails; such a page stays dirty, and nothing is told of it.
 ///
 /// At the end of the step, however it came, the age of each page that is still dirty rises by one.
