@@ -1,0 +1,10 @@
+//! The plain, slow program beside the definitions: it computes each of them, by lists and loops alone.
+//!
+//! Nothing here keeps an index, a cache or a count: each call goes over the whole image or the whole
+//! array. The contract of each call is the definition itself, so the calls say on small inputs what the
+//! definitions of `array_model` mean, and tests compare other crates with them.
+#![tactic(auto)]
+
+mod images;
+
+pub use images::{block_of, names};
