@@ -5,6 +5,8 @@
 //! definitions of `array_model` mean, and tests compare other crates with them.
 #![tactic(auto)]
 
+mod grades;
 mod images;
 
+pub use grades::{is_exact, is_fit, is_sound, is_tight};
 pub use images::{block_of, names};
