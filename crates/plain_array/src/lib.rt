@@ -7,6 +7,8 @@
 
 mod grades;
 mod images;
+mod rows;
 
 pub use grades::{is_exact, is_fit, is_sound, is_tight};
 pub use images::{block_of, names};
+pub use rows::{Row, allowed, array_start};
