@@ -5,10 +5,13 @@
 //! definitions of `array_model` mean, and tests compare other crates with them.
 #![tactic(auto)]
 
+mod changes;
 mod grades;
 mod images;
 mod rows;
+mod steps;
 
 pub use grades::{is_exact, is_fit, is_sound, is_tight};
 pub use images::{block_of, names};
 pub use rows::{Row, allowed, array_start};
+pub use steps::{StepError, array_after};
