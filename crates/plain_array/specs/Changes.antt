@@ -30,3 +30,8 @@ abbrev pub ReadsBehind : ℕ → Command → Reply → Type 0
 ReadsBehind rows (command.Copy from to n) reply.Done = CopiesBehind rows from to n
 ReadsBehind rows (command.Copy from to n) (reply.Stopped done why) = CopiesBehind rows from to done
 ReadsBehind rows command r = ⊥
+
+-- a command puts the content of a block that the table has not at this block
+abbrev pub WritesFromBehind : ℕ → Command → ℕ → Type 0
+WritesFromBehind rows (command.Copy from to n) block = (is_within to n block ≡ true) × (rows ≤ from + (block - to))
+WritesFromBehind rows command block = ⊥

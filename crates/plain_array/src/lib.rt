@@ -8,10 +8,12 @@
 mod changes;
 mod grades;
 mod images;
+mod replies;
 mod rows;
 mod steps;
 
 pub use grades::{is_exact, is_fit, is_sound, is_tight};
 pub use images::{block_of, names};
+pub use replies::fits_reply;
 pub use rows::{Row, allowed, array_start};
-pub use steps::{StepError, array_after};
+pub use steps::{StepError, array_after, writes};

@@ -1,12 +1,12 @@
 // The block array after a command that was answered, row by row.
-ghost use Rattle.std.specs.Prelude.{◌≡◌, ◌↔◌, ℕ, ◌∷◌, [], ◌++◌, ◌<◌, length, IfOk, IfErr, Err, IsTrue};
+ghost use Rattle.std.specs.Prelude.{◌≡◌, ◌∷◌, [], ◌++◌, ◌+◌, ◌-◌, ◌<◌, ◌≤◌, ◌==◌, if◌then◌else◌, length, true, Some, None, IfOk, IfErr, Err};
 ghost use Rattle.array_model.specs.Array as array;
 ghost use Rattle.array_model.specs.Array.{BlockArray, last_of};
-ghost use Rattle.plain_array.specs.Changes.{changed, CopiesBehind, ChangesBehind, ReadsBehind};
+ghost use Rattle.plain_array.specs.Changes.{changed, CopiesBehind, ChangesBehind, ReadsBehind, WritesFromBehind};
 ghost use Rattle.plain_array.specs.Rows.{Shows, row_of};
 
 use crate::changes::{Change, change_of};
-use crate::rows::{Row, copy_all, last_content};
+use crate::rows::{Row, copy_all, last, last_content};
 use page_device::Page;
 use std::alloc::Global;
 use trace_text::{Command, Reply};
@@ -142,4 +142,46 @@ pub fn array_after(
         }
     }
     Ok(new)
+}
+
+/// The content that a command puts at a block, if any, over the block array of these rows. Answers
+/// `Behind` exactly where that is the content of a block behind the last row.
+#[tactic(auto, unfolding(array_model::specs::Array::writes))]
+pub fn writes(rows: &[Row], command: &Command, block: u32) -> Result<Option<Page>, StepError>
+    ensures written { IfOk result (λ content. (a : BlockArray) → Shows rows.now a → content ≡ array.writes a command.now block) }
+    ensures behind { IfErr result (λ error. (error ≡ StepError.Behind) × WritesFromBehind (length rows.now) command.now block) }
+{
+    match command {
+        Command::Write { block: at, number } => Ok(put_at(*at, block, &Page::numbered(*number))),
+        Command::Fill { block: at, page } => Ok(put_at(*at, block, page)),
+        Command::Discard { block: at } => Ok(put_at(*at, block, &Page::zero())),
+        Command::Copy { from, to, n } => copied_to(rows, *from, *to, *n, block),
+        _ => Ok(None),
+    }
+}
+
+// The content, where the block is the one that it is put at.
+fn put_at(at: u32, block: u32, content: &Page) -> Option<Page>
+    ensures { result ≡ (if block == at then Some content.now else None) }
+{
+    if block == at {
+        return Some(content.copy());
+    }
+    None
+}
+
+// The content that a copy puts at a block, if any.
+fn copied_to(rows: &[Row], from: u32, to: u32, n: u32, block: u32) -> Result<Option<Page>, StepError>
+    ensures written { IfOk result (λ content. (a : BlockArray) → Shows rows.now a
+        → content ≡ (if array.is_within to n block then Some (array.last a (from + (block - to))) else None)) }
+    ensures behind { IfErr result (λ error. (error ≡ StepError.Behind) × (array.is_within to n block ≡ true) × (length rows.now ≤ from + (block - to))) }
+{
+    if !is_within(to, n, block as usize) {
+        return Ok(None);
+    }
+    let source = from as usize + (block - to) as usize;
+    if source >= rows.len() {
+        return Err(StepError::Behind);
+    }
+    Ok(Some(last(rows, source)))
 }
