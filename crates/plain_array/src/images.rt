@@ -63,10 +63,11 @@ fn data_start(pages: &[Page]) -> usize
 }
 
 /// The data page that a block names, or 0.
-pub fn map_of(pages: &[Page], block: u32) -> u32
+pub fn map_of(pages: &[Page], block: usize) -> u32
     ensures { result ≡ table.map_of pages.now block }
 {
-    map_entry(&page_of(pages, 1 + block as usize / 1024), block % 1024)
+    let entry = block % 1024;
+    map_entry(&page_of(pages, 1 + block / 1024), entry as u32)
 }
 
 /// The stored count of a data page, numbered from 1.
@@ -96,7 +97,7 @@ pub fn data_of(pages: &[Page], p: u32) -> Page
 
 /// What a block of an image reads: zeros where it names no page, and otherwise the page that it names.
 /// Any list of pages is an image, also where it has no superblock: what it says is then read all the same.
-pub fn block_of(pages: &[Page], block: u32) -> Page
+pub fn block_of(pages: &[Page], block: usize) -> Page
     ensures { result ≡ image.block_of pages.now block }
 {
     match map_of(pages, block) {
@@ -112,7 +113,7 @@ pub fn names(pages: &[Page], p: u32) -> u32
 {
     let mut named = 0;
     for block in 0..blocks_of(pages) {
-        if map_of(pages, block) == p {
+        if map_of(pages, block as usize) == p {
             named += 1;
         }
     }

@@ -8,12 +8,14 @@
 mod changes;
 mod grades;
 mod images;
+mod left;
 mod replies;
 mod rows;
 mod steps;
 
 pub use grades::{is_exact, is_fit, is_sound, is_tight};
 pub use images::{block_of, names};
+pub use left::{Mode, is_good, may_be_left};
 pub use replies::fits_reply;
 pub use rows::{Row, allowed, array_start};
 pub use steps::{StepError, array_after, writes};

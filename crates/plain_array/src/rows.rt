@@ -67,7 +67,7 @@ pub fn array_start(alloc: Global, pages: &[Page], blocks: u32) -> Result<Vec<Row
 {
     let mut rows = Vec::new(alloc);
     for block in 0..blocks {
-        let row = start_row(alloc, pages, block)?;
+        let row = start_row(alloc, pages, block as usize)?;
         if rows.push(row).is_err() {
             return Err(NoMemory);
         }
@@ -76,7 +76,7 @@ pub fn array_start(alloc: Global, pages: &[Page], blocks: u32) -> Result<Vec<Row
 }
 
 // The row of a block at the start.
-fn start_row(alloc: Global, pages: &[Page], block: u32) -> Result<Row, NoMemory>
+fn start_row(alloc: Global, pages: &[Page], block: usize) -> Result<Row, NoMemory>
     ensures { IfOk result (λ row. row ≡ row_of (array_start pages.now) block) }
 {
     let mut contents = Vec::new(alloc);
@@ -88,11 +88,10 @@ fn start_row(alloc: Global, pages: &[Page], block: u32) -> Result<Row, NoMemory>
 }
 
 /// Whether a block may read a content after a crash. Answers `false` for a block behind the last row.
-pub fn allowed(rows: &[Row], block: u32, content: &Page) -> bool
+pub fn allowed(rows: &[Row], block: usize, content: &Page) -> bool
     ensures there { (a : BlockArray) → Shows rows.now a → block < length rows.now → (IsTrue result ↔ Allowed a block content.now) }
     ensures behind { length rows.now ≤ block → result ≡ false }
 {
-    let block = block as usize;
     if block >= rows.len() {
         return false;
     }

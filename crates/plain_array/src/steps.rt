@@ -147,7 +147,7 @@ pub fn array_after(
 /// The content that a command puts at a block, if any, over the block array of these rows. Answers
 /// `Behind` exactly where that is the content of a block behind the last row.
 #[tactic(auto, unfolding(array_model::specs::Array::writes))]
-pub fn writes(rows: &[Row], command: &Command, block: u32) -> Result<Option<Page>, StepError>
+pub fn writes(rows: &[Row], command: &Command, block: usize) -> Result<Option<Page>, StepError>
     ensures written { IfOk result (λ content. (a : BlockArray) → Shows rows.now a → content ≡ array.writes a command.now block) }
     ensures behind { IfErr result (λ error. (error ≡ StepError.Behind) × WritesFromBehind (length rows.now) command.now block) }
 {
@@ -161,25 +161,31 @@ pub fn writes(rows: &[Row], command: &Command, block: u32) -> Result<Option<Page
 }
 
 // The content, where the block is the one that it is put at.
-fn put_at(at: u32, block: u32, content: &Page) -> Option<Page>
+fn put_at(at: u32, block: usize, content: &Page) -> Option<Page>
     ensures { result ≡ (if block == at then Some content.now else None) }
 {
-    if block == at {
+    if block == at as usize {
         return Some(content.copy());
     }
     None
 }
 
 // The content that a copy puts at a block, if any.
-fn copied_to(rows: &[Row], from: u32, to: u32, n: u32, block: u32) -> Result<Option<Page>, StepError>
+fn copied_to(
+    rows: &[Row],
+    from: u32,
+    to: u32,
+    n: u32,
+    block: usize,
+) -> Result<Option<Page>, StepError>
     ensures written { IfOk result (λ content. (a : BlockArray) → Shows rows.now a
         → content ≡ (if array.is_within to n block then Some (array.last a (from + (block - to))) else None)) }
     ensures behind { IfErr result (λ error. (error ≡ StepError.Behind) × (array.is_within to n block ≡ true) × (length rows.now ≤ from + (block - to))) }
 {
-    if !is_within(to, n, block as usize) {
+    if !is_within(to, n, block) {
         return Ok(None);
     }
-    let source = from as usize + (block - to) as usize;
+    let source = from as usize + (block - to as usize);
     if source >= rows.len() {
         return Err(StepError::Behind);
     }
