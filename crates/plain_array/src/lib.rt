@@ -14,7 +14,7 @@ mod rows;
 mod steps;
 
 pub use grades::{is_exact, is_fit, is_sound, is_tight};
-pub use images::{block_of, names};
+pub use images::{block_of, count_of, data_of, map_of, names, print_of};
 pub use left::{Mode, is_good, may_be_left};
 pub use replies::fits_reply;
 pub use rows::{Row, allowed, array_start};
