@@ -12,46 +12,28 @@ use std::process::Abort;
 use std::test::Fail;
 use trace_text::{Command, Reply};
 
-// What is put where one call fails.
-#[derive(Clone, Copy, Drop)]
-struct Run {
-    // The call that fails, counted from 1; none for 0.
-    fails: u64,
-    // Whether each line is done, and the number of its reply.
-    turns: [(bool, u64); 3],
-    // The device calls with those of the closing flush, and the number of the block that block 0 reads then.
-    calls: u64,
-    last: u64,
-}
+// Whether each line is done, and the number of its reply.
+type Turns = [(bool, u64); 3];
 
-const fn failing(fails: u64, turns: [(bool, u64); 3], calls: u64, last: u64) -> Run {
-    Run {
-        fails,
-        turns,
-        calls,
-        last,
-    }
-}
-
-// Until the map page is tried a fault refuses the write. From then on the write is done, and the next flush,
-// or the one that closes the session, puts the map page by two calls more.
-fn table() -> [Run; 13] {
-    [
-        failing(0, [(true, 6), (true, 6), (true, 12)], 12, 6),
-        failing(1, [(false, 1), (true, 1), (true, 7)], 7, 6),
-        failing(2, [(false, 2), (true, 2), (true, 8)], 8, 6),
-        failing(3, [(false, 3), (true, 3), (true, 9)], 9, 6),
-        failing(4, [(false, 4), (true, 4), (true, 10)], 10, 6),
-        failing(5, [(true, 5), (true, 7), (true, 13)], 13, 6),
-        failing(6, [(true, 6), (true, 8), (true, 14)], 14, 6),
-        failing(7, [(true, 6), (true, 6), (false, 7)], 7, 5),
-        failing(8, [(true, 6), (true, 6), (false, 8)], 8, 5),
-        failing(9, [(true, 6), (true, 6), (false, 9)], 9, 5),
-        failing(10, [(true, 6), (true, 6), (false, 10)], 10, 5),
-        failing(11, [(true, 6), (true, 6), (true, 11)], 13, 6),
-        failing(12, [(true, 6), (true, 6), (true, 12)], 14, 6),
-    ]
-}
+// The call that fails, counted from 1, and 0 for none; the turns; the device calls with those of the closing
+// flush; and the number of the block that block 0 reads then. Until the map page is tried a fault refuses the
+// write. From then on the write is done, and the next flush, or the one that closes the session, puts the map
+// page by two calls more.
+const TABLE: [(u64, Turns, u64, u64); 13] = [
+    (0, [(true, 6), (true, 6), (true, 12)], 12, 6),
+    (1, [(false, 1), (true, 1), (true, 7)], 7, 6),
+    (2, [(false, 2), (true, 2), (true, 8)], 8, 6),
+    (3, [(false, 3), (true, 3), (true, 9)], 9, 6),
+    (4, [(false, 4), (true, 4), (true, 10)], 10, 6),
+    (5, [(true, 5), (true, 7), (true, 13)], 13, 6),
+    (6, [(true, 6), (true, 8), (true, 14)], 14, 6),
+    (7, [(true, 6), (true, 6), (false, 7)], 7, 5),
+    (8, [(true, 6), (true, 6), (false, 8)], 8, 5),
+    (9, [(true, 6), (true, 6), (false, 9)], 9, 5),
+    (10, [(true, 6), (true, 6), (false, 10)], 10, 5),
+    (11, [(true, 6), (true, 6), (true, 11)], 13, 6),
+    (12, [(true, 6), (true, 6), (true, 12)], 14, 6),
+];
 
 fn reply(done: bool) -> Reply {
     if done { Reply::Done } else { Reply::Fault }
@@ -62,106 +44,117 @@ fn word(done: bool) -> &'static str {
 }
 
 // The text of the replies.
-fn text(alloc: Global, run: &Run) -> Result<String, Fail> {
-    let [first, second, third] = run.turns;
-    Ok(format!(in alloc;
-        "{} {}\n{} {}\n{} {}\n",
-        first.1,
-        word(first.0),
-        second.1,
-        word(second.0),
-        third.1,
-        word(third.0)
-    )?)
+fn text(alloc: Global, turns: Turns) -> Result<String, Fail> {
+    let mut text = String::new(alloc);
+    for (done, at) in turns {
+        let line = format!(in alloc; "{at} {}\n", word(done))?;
+        text.push_str(&line)?;
+    }
+    Ok(text)
 }
 
 // How many lines had been answered after so many calls.
-fn answered(run: &Run, at: u64) -> usize {
+fn answered(turns: Turns, calls: u64) -> usize {
     let mut lines: usize = 0;
-    for turn in run.turns {
-        if turn.1 <= at {
+    for (_, at) in turns {
+        if at <= calls {
             lines = lines.saturating_add(1);
         }
     }
     lines
 }
 
-// The plain array after the first lines, where each reply fits.
-fn rows_after(
+// The plain array after a line, whose reply fits.
+fn after_line(
+    rt: &impl Abort,
+    alloc: Global,
+    rows: &[Row],
+    line: usize,
+    done: bool,
+) -> Result<Vec<Row>, Fail> {
+    let command = command(line);
+    let reply = reply(done);
+    assert!(rt; fits_reply(rows, &[], &command, &reply), "line {line}");
+    Ok(array_after(alloc, 1, rows, &command, &reply)?)
+}
+
+// The plain array after the first lines.
+fn after_lines(
     rt: &impl Abort,
     alloc: Global,
     start: &[Page],
-    run: &Run,
+    turns: Turns,
     lines: usize,
 ) -> Result<Vec<Row>, Fail> {
     let mut rows = array_start(alloc, start, 4)?;
-    for (line, turn) in run.turns.iter().enumerate() {
-        if line < lines {
-            let command = command(line);
-            let reply = reply(turn.0);
-            assert!(rt; fits_reply(&rows, &[], &command, &reply), "line {line}");
-            rows = array_after(alloc, 1, &rows, &command, &reply)?;
-        }
+    for (line, (done, _)) in turns.iter().take(lines).enumerate() {
+        rows = after_line(rt, alloc, &rows, line, *done)?;
     }
     Ok(rows)
 }
 
-// The plain array after so many calls: once all were made, the session has closed by a flush.
-fn rows_at(
+// Every image of a moment is sound, and reads what is allowed or what the command at work writes.
+fn may_all_be_left(
     rt: &impl Abort,
     alloc: Global,
-    start: &[Page],
-    run: &Run,
+    device: &MemDevice,
     at: u64,
-) -> Result<Vec<Row>, Fail> {
-    let rows = rows_after(rt, alloc, start, run, answered(run, at))?;
-    if at < run.calls {
-        return Ok(rows);
+    rows: &[Row],
+    command: &Command,
+) -> Result<(), Fail> {
+    for pages in images_at(alloc, device, at)? {
+        let left = may_be_left(Mode::Sound, rows, command, &pages)?;
+        assert!(rt; left, "after {at} calls");
     }
-    Ok(array_after(alloc, 1, &rows, &Command::Flush, &Reply::Done)?)
+    Ok(())
 }
 
-// Every image of every moment is sound, and reads what is allowed or what the line at work writes.
-fn all_may_be_left(
+// So it is at every moment while lines are answered, and once the session has closed by a flush.
+fn at_each_moment(
     rt: &impl Abort,
     alloc: Global,
     device: &MemDevice,
     start: &[Page],
-    run: &Run,
+    turns: Turns,
 ) -> Result<(), Fail> {
+    let calls = device.calls();
     for at in 0..15 {
-        let rows = rows_at(rt, alloc, start, run, at)?;
-        let command = command(answered(run, at));
-        for pages in images_at(alloc, device, at)? {
-            let left = may_be_left(Mode::Sound, &rows, &command, &pages)?;
-            assert!(rt; left, "call {} fails, after {at} calls", run.fails);
-        }
+        let lines = answered(turns, at);
+        let rows = after_lines(rt, alloc, start, turns, lines)?;
+        may_all_be_left(rt, alloc, device, at, &rows, &command(lines))?;
     }
-    Ok(())
+    let rows = after_lines(rt, alloc, start, turns, 3)?;
+    let closed = array_after(alloc, 1, &rows, &Command::Flush, &Reply::Done)?;
+    may_all_be_left(rt, alloc, device, calls, &closed, &Command::Tick)
 }
 
-fn one_fails(rt: &impl Abort, alloc: Global, run: &Run, taken: bool) -> Result<(), Fail> {
+// The session, where a call fails that is taken or not. Gives how it ended, and what it left.
+fn one_fails(
+    alloc: Global,
+    call: u64,
+    taken: bool,
+    turns: Turns,
+) -> Result<(MemDevice, Status, bool), Fail> {
     let mut device = formatted(alloc)?;
-    let start = pages_of(alloc, &mut device)?;
-    device.fail_call(run.fails, taken)?;
-    let text = text(alloc, run)?;
-    let end = ends(alloc, &mut device, &text)?;
-    assert_eq!(rt; end, (Status::Done, true), "call {} fails", run.fails);
-    assert_eq!(rt; device.calls(), run.calls, "call {} fails", run.fails);
-    all_may_be_left(rt, alloc, &device, &start, run)?;
-    let last = pages_of(alloc, &mut device)?;
-    assert_eq!(rt;
-        block_of(&last, 0).bytes(),
-        Page::numbered(run.last).bytes()
-    );
-    Ok(())
+    device.fail_call(call, taken)?;
+    let text = text(alloc, turns)?;
+    let (status, put) = ends(alloc, &mut device, &text)?;
+    Ok((device, status, put))
 }
 
 #[test]
 fn survives_each_fault(rt: HostRuntime) -> Result<(), Fail> {
-    for run in table() {
-        one_fails(&rt, rt.alloc(), &run, false)?;
-        one_fails(&rt, rt.alloc(), &run, true)?;
+    let alloc = rt.alloc();
+    let start = pages_of(alloc, &mut formatted(alloc)?)?;
+    for (call, turns, calls, last) in TABLE {
+        for taken in [false, true] {
+            let (mut device, status, put) = one_fails(alloc, call, taken, turns)?;
+            assert_eq!(rt; (status, put), (Status::Done, true), "call {call}");
+            assert_eq!(rt; device.calls(), calls, "call {call}");
+            at_each_moment(&rt, alloc, &device, &start, turns)?;
+            let block = block_of(&pages_of(alloc, &mut device)?, 0);
+            assert_eq!(rt; block.bytes(), Page::numbered(last).bytes());
+        }
     }
     Ok(())
 }

@@ -10,72 +10,56 @@ use std::test::Fail;
 
 // One image of a moment: what the map names at block 0, the counts of the first two data pages, the numbers
 // of the blocks that they hold, and the number of the block that block 0 reads.
-#[derive(Clone, Copy, Drop)]
-struct Seen {
-    at: u64,
-    name: u32,
-    counts: (u32, u32),
-    held: (u64, u64),
-    reads: u64,
-}
+type Seen = (u32, (u32, u32), (u64, u64), u64);
 
-const fn seen_at(at: u64, name: u32, counts: (u32, u32), held: (u64, u64), reads: u64) -> Seen {
-    Seen {
-        at,
-        name,
-        counts,
-        held,
-        reads,
-    }
-}
-
-// In the order of the moments, and at each of them the image first that has nothing of the call before it.
-fn table() -> [Seen; 19] {
-    [
-        seen_at(0, 0, (0, 0), (0, 0), 0),
-        // the data page is written and fixed
-        seen_at(1, 0, (0, 0), (0, 0), 0),
-        seen_at(1, 0, (0, 0), (5, 0), 0),
-        seen_at(2, 0, (0, 0), (5, 0), 0),
-        // the count page
-        seen_at(3, 0, (0, 0), (5, 0), 0),
-        seen_at(3, 0, (1, 0), (5, 0), 0),
-        seen_at(4, 0, (1, 0), (5, 0), 0),
-        // the map page
-        seen_at(5, 0, (1, 0), (5, 0), 0),
-        seen_at(5, 1, (1, 0), (5, 0), 5),
-        seen_at(6, 1, (1, 0), (5, 0), 5),
-        // nothing is pending, so the flush makes no call; the second write takes the next data page
-        seen_at(7, 1, (1, 0), (5, 0), 5),
-        seen_at(7, 1, (1, 0), (5, 6), 5),
-        seen_at(8, 1, (1, 0), (5, 6), 5),
-        seen_at(9, 1, (1, 0), (5, 6), 5),
-        seen_at(9, 1, (1, 1), (5, 6), 5),
-        seen_at(10, 1, (1, 1), (5, 6), 5),
-        seen_at(11, 1, (1, 1), (5, 6), 5),
-        seen_at(11, 2, (1, 1), (5, 6), 6),
-        seen_at(12, 2, (1, 1), (5, 6), 6),
-    ]
-}
+// The images with their moments, in the order of the moments; at each of them first the image that has nothing
+// of the call before it.
+const TABLE: [(u64, Seen); 19] = [
+    (0, (0, (0, 0), (0, 0), 0)),
+    // the data page is written and fixed
+    (1, (0, (0, 0), (0, 0), 0)),
+    (1, (0, (0, 0), (5, 0), 0)),
+    (2, (0, (0, 0), (5, 0), 0)),
+    // the count page
+    (3, (0, (0, 0), (5, 0), 0)),
+    (3, (0, (1, 0), (5, 0), 0)),
+    (4, (0, (1, 0), (5, 0), 0)),
+    // the map page
+    (5, (0, (1, 0), (5, 0), 0)),
+    (5, (1, (1, 0), (5, 0), 5)),
+    (6, (1, (1, 0), (5, 0), 5)),
+    // nothing is pending, so the flush makes no call; the second write takes the next data page
+    (7, (1, (1, 0), (5, 0), 5)),
+    (7, (1, (1, 0), (5, 6), 5)),
+    (8, (1, (1, 0), (5, 6), 5)),
+    (9, (1, (1, 0), (5, 6), 5)),
+    (9, (1, (1, 1), (5, 6), 5)),
+    (10, (1, (1, 1), (5, 6), 5)),
+    (11, (1, (1, 1), (5, 6), 5)),
+    (11, (2, (1, 1), (5, 6), 6)),
+    (12, (2, (1, 1), (5, 6), 6)),
+];
 
 fn holds(page: &Page, number: u64) -> bool {
     page.bytes() == Page::numbered(number).bytes()
 }
 
 // The image has this in its tables and data pages.
-fn has(pages: &[Page], row: &Seen) -> bool {
-    map_of(pages, 0) == row.name
-        && (count_of(pages, 1), count_of(pages, 2)) == row.counts
-        && holds(&data_of(pages, 1), row.held.0)
-        && holds(&data_of(pages, 2), row.held.1)
+fn has(pages: &[Page], seen: Seen) -> bool {
+    let (name, counts, held, _) = seen;
+    map_of(pages, 0) == name
+        && (count_of(pages, 1), count_of(pages, 2)) == counts
+        && holds(&data_of(pages, 1), held.0)
+        && holds(&data_of(pages, 2), held.1)
 }
 
-// It is fit, names what its map says, and its blocks read so.
-fn reads(pages: &[Page], row: &Seen) -> bool {
+// It is fit, its pages have the names that the map says, and its blocks read so.
+fn reads(pages: &[Page], seen: Seen) -> bool {
+    let (name, _, _, number) = seen;
     is_fit(pages)
-        && names(pages, 1) == u32::from(row.name == 1)
-        && names(pages, 2) == u32::from(row.name == 2)
-        && holds(&block_of(pages, 0), row.reads)
+        && names(pages, 1) == u32::from(name == 1)
+        && names(pages, 2) == u32::from(name == 2)
+        && holds(&block_of(pages, 0), number)
         && holds(&block_of(pages, 1), 0)
         && holds(&block_of(pages, 3), 0)
 }
@@ -99,10 +83,10 @@ fn leaves_each_image_of_the_table(rt: HostRuntime) -> Result<(), Fail> {
     assert_eq!(rt; device.calls(), 12);
     let images = all_images(rt.alloc(), &device)?;
     assert_eq!(rt; images.len(), 19);
-    for (row, (at, pages)) in table().iter().zip(images.iter()) {
-        assert_eq!(rt; *at, row.at);
-        assert!(rt; has(pages, row), "after {at} calls");
-        assert!(rt; reads(pages, row), "after {at} calls");
+    for ((want, seen), (at, pages)) in TABLE.iter().zip(images.iter()) {
+        assert_eq!(rt; at, want);
+        assert!(rt; has(pages, *seen), "after {at} calls");
+        assert!(rt; reads(pages, *seen), "after {at} calls");
     }
     Ok(())
 }
