@@ -6,12 +6,14 @@
 #![tactic(auto)]
 
 mod changes;
+mod commands;
 mod grades;
 mod images;
 mod left;
 mod replies;
 mod rows;
 mod steps;
+mod turns;
 
 pub use grades::{is_exact, is_fit, is_sound, is_tight};
 pub use images::{block_of, count_of, data_of, map_of, names, print_of};
@@ -19,3 +21,4 @@ pub use left::{Mode, is_good, may_be_left};
 pub use replies::fits_reply;
 pub use rows::{Row, allowed, array_start};
 pub use steps::{StepError, array_after, writes};
+pub use turns::{Asked, Turn, is_run};
