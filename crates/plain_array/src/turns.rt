@@ -208,7 +208,7 @@ fn fits_turn(
 /// Whether turns are a run over a block array of these rows, which has as many blocks as there are rows,
 /// where an image has this version, the commands of these letters are built, these labels of policies
 /// are unused, and so many device calls were made before. A letter is the one with which the line of a
-/// command begins.
+/// command begins. An error is want of memory. Copies each content of each block for each turn.
 #[tactic(auto, unfolding(array_model::specs::Turns::IsRun))]
 pub fn is_run(
     alloc: Global,
