@@ -128,7 +128,8 @@ fn at_each_moment(
     may_all_be_left(rt, alloc, device, calls, &closed, &Command::Tick)
 }
 
-// The session, where a call fails that is taken or not. Gives how it ended, and what it left.
+// The session, where a call fails that is taken or not. Gives how it ended, whether it put the text of these
+// turns, and its device.
 fn one_fails(
     alloc: Global,
     call: u64,
@@ -142,19 +143,35 @@ fn one_fails(
     Ok((device, status, put))
 }
 
+// The number of the block that block 0 reads is this one.
+fn reads(alloc: Global, device: &mut MemDevice, number: u64) -> Result<bool, Fail> {
+    let pages = pages_of(alloc, device)?;
+    Ok(block_of(&pages, 0).bytes() == Page::numbered(number).bytes())
+}
+
+// A row of the table.
+fn survives(
+    rt: &impl Abort,
+    alloc: Global,
+    start: &[Page],
+    row: (u64, Turns, u64, u64),
+    taken: bool,
+) -> Result<(), Fail> {
+    let (call, turns, calls, last) = row;
+    let (mut device, status, put) = one_fails(alloc, call, taken, turns)?;
+    let end = (status, put, device.calls());
+    assert_eq!(rt; end, (Status::Done, true, calls), "call {call}");
+    at_each_moment(rt, alloc, &device, start, turns)?;
+    assert!(rt; reads(alloc, &mut device, last)?, "call {call}");
+    Ok(())
+}
+
 #[test]
 fn survives_each_fault(rt: HostRuntime) -> Result<(), Fail> {
-    let alloc = rt.alloc();
-    let start = pages_of(alloc, &mut formatted(alloc)?)?;
-    for (call, turns, calls, last) in TABLE {
-        for taken in [false, true] {
-            let (mut device, status, put) = one_fails(alloc, call, taken, turns)?;
-            assert_eq!(rt; (status, put), (Status::Done, true), "call {call}");
-            assert_eq!(rt; device.calls(), calls, "call {call}");
-            at_each_moment(&rt, alloc, &device, &start, turns)?;
-            let block = block_of(&pages_of(alloc, &mut device)?, 0);
-            assert_eq!(rt; block.bytes(), Page::numbered(last).bytes());
-        }
+    let start = pages_of(rt.alloc(), &mut formatted(rt.alloc())?)?;
+    for row in TABLE {
+        survives(&rt, rt.alloc(), &start, row, false)?;
+        survives(&rt, rt.alloc(), &start, row, true)?;
     }
     Ok(())
 }

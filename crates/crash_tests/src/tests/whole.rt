@@ -6,6 +6,7 @@ use page_device::{MemDevice, Page};
 use plain_array::{block_of, count_of, data_of, is_fit, map_of, names};
 use session::Status;
 use std::alloc::Global;
+use std::process::Abort;
 use std::test::Fail;
 
 // One image of a moment: what the map names at block 0, the counts of the first two data pages, the numbers
@@ -75,18 +76,24 @@ fn all_images(alloc: Global, device: &MemDevice) -> Result<Vec<(u64, Vec<Page>)>
     Ok(all)
 }
 
+// An image of the session, beside its row of the table.
+fn is_seen(rt: &impl Abort, row: &(u64, Seen), image: &(u64, Vec<Page>)) {
+    let (at, pages) = image;
+    assert!(rt;
+        *at == row.0 && has(pages, row.1) && reads(pages, row.1),
+        "after {at} calls"
+    );
+}
+
 #[test]
 fn leaves_each_image_of_the_table(rt: HostRuntime) -> Result<(), Fail> {
     let mut device = formatted(rt.alloc())?;
     let end = ends(rt.alloc(), &mut device, "6 ok\n6 ok\n12 ok\n")?;
-    assert_eq!(rt; end, (Status::Done, true));
-    assert_eq!(rt; device.calls(), 12);
+    assert_eq!(rt; (end, device.calls()), ((Status::Done, true), 12));
     let images = all_images(rt.alloc(), &device)?;
-    assert_eq!(rt; images.len(), 19);
-    for ((want, seen), (at, pages)) in TABLE.iter().zip(images.iter()) {
-        assert_eq!(rt; at, want);
-        assert!(rt; has(pages, *seen), "after {at} calls");
-        assert!(rt; reads(pages, *seen), "after {at} calls");
+    assert_eq!(rt; images.len(), TABLE.len());
+    for (row, image) in TABLE.iter().zip(images.iter()) {
+        is_seen(&rt, row, image);
     }
     Ok(())
 }
