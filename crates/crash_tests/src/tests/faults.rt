@@ -169,6 +169,7 @@ fn survives(
 #[test]
 fn survives_each_fault(rt: HostRuntime) -> Result<(), Fail> {
     let start = pages_of(rt.alloc(), &mut formatted(rt.alloc())?)?;
+    assert!(rt; is_tight(&start));
     for row in TABLE {
         survives(&rt, rt.alloc(), &start, row, false)?;
         survives(&rt, rt.alloc(), &start, row, true)?;
