@@ -1,15 +1,15 @@
 -- What is fit at an entry, table by table.
-use Rattle.std.proofs.Common.{◌≡◌, ◌⊎◌, inl, inr, ⊎_elim, ℕ, ◌+◌, ◌-◌, ◌*◌, ◌<◌, ◌≤◌, List, Some, None, Option, IsSome, refl, sym, ◌∙◌, ap, subst, arith}
+use Rattle.std.proofs.Common.{◌≡◌, ℕ, ◌+◌, ◌-◌, ◌*◌, ◌<◌, ◌≤◌, List, Some, None, Option, sym, ◌∙◌, ap, subst, arith}
 use Rattle.page_device.specs.Block.{Block}
 use Rattle.page_layout.specs.declared.shape.Table.{Table}
 use Rattle.page_layout.specs.declared.shape.Table.TheVariants.{Map, Count, Print}
 use Rattle.page_layout.specs.Numbers.{entry_of}
-use Rattle.page_layout.specs.Shape.{ShapeView, map_page, count_page, count_place, print_page, print_place, map_pages, count_pages, first_count_page, first_print_page, first_data_page}
-use Rattle.page_layout.specs.Tables.{page_of, print_entry_of}
+use Rattle.page_layout.specs.Shape.{ShapeView, map_page, count_page, count_place, print_page, first_count_page, first_print_page, first_data_page}
+use Rattle.page_layout.specs.Tables.{page_of}
 use Rattle.page_layout.specs.Entries.{table_at, entries_of, IsEntry}
 use Rattle.page_layout.proofs.Laws.{map_page_table, count_page_table, print_page_table}
 use Rattle.dedup_writer.specs.Core.{count_index}
-use Rattle.mount_reader.specs.Faults.{IsFitEntry, names_in}
+use Rattle.mount_reader.specs.Faults.{IsFitEntry}
 use Rattle.mount_reader.specs.Tables.{AreTallies, AreCounts, IsEnough, IsBacked, tally_of}
 
 -- the table of a page

@@ -1,5 +1,5 @@
 -- An image whose entries are fit is fit, and why one does not mount.
-use Rattle.std.proofs.Common.{◌≡◌, ◌⊎◌, inl, inr, ⊎_elim, ℕ, ◌+◌, ◌-◌, ◌<◌, ◌≤◌, ◌^◌, true, List, refl, sym, ap, subst, arith, length, Some}
+use Rattle.std.proofs.Common.{◌≡◌, ⊎_elim, ℕ, ◌+◌, ◌-◌, ◌<◌, ◌≤◌, ◌^◌, List, refl, sym, subst, arith, Some}
 use Rattle.std.proofs.lemmas.Bool.{cases_lt}
 use Rattle.page_device.specs.Block.{Block}
 use Rattle.page_device.specs.Disk.{newest}
@@ -7,7 +7,7 @@ use Rattle.page_device.specs.Meaning.{Meaning}
 use Rattle.page_device.specs.declared.error.Damage.{Damage}
 use Rattle.page_layout.specs.declared.shape.Table.{Table}
 use Rattle.page_layout.specs.declared.shape.Table.TheVariants.{Map, Count, Print}
-use Rattle.page_layout.specs.Shape.{ShapeView, map_pages, count_pages, print_pages, first_count_page, first_print_page, first_data_page, count_page, count_place, print_page, print_place}
+use Rattle.page_layout.specs.Shape.{ShapeView, first_count_page, first_print_page, first_data_page, count_page, count_place, print_page, print_place}
 use Rattle.page_layout.specs.Tables.{page_of, shape_of, HasShape, IsWellFormed, IsMapPage, IsCountPage, IsPrintPage}
 use Rattle.page_layout.specs.Entries.{table_at, IsTablePage}
 use Rattle.page_layout.proofs.TablePages.{page_of_entries}

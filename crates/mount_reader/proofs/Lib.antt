@@ -4,3 +4,4 @@ pub mod Names
 pub mod Firsts
 pub mod Pushed
 pub mod Fits
+pub mod Formats

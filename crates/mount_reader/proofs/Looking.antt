@@ -1,7 +1,6 @@
 -- A device that was only looked at.
-use Rattle.std.proofs.Common.{◌≡◌, ℕ, ◌-◌, ◌+◌, ◌≤◌, ◌<◌, ⊎_elim, true, List, Some, length, replicate, refl, sym, ◌∙◌, ap, subst, arith, slice_get}
+use Rattle.std.proofs.Common.{◌≡◌, ℕ, ◌-◌, true, List, Some, length, replicate, refl, sym, ◌∙◌, ap, subst, arith, slice_get}
 use Rattle.std.proofs.lemmas.Option.{get_or_from_slice_get}
-use Rattle.std.proofs.lemmas.Bool.{cases_lt}
 use Rattle.page_device.specs.Block.{Block, zero_block}
 use Rattle.page_device.specs.Disk.{DeviceState, newest, at_rest, overlay, with_room}
 use Rattle.page_device.specs.Meaning.{Meaning, SameKind, OneRead, IsUntouched, Grows}

@@ -1,5 +1,5 @@
 -- The first entry that no fit image has.
-use Rattle.std.specs.Prelude.{◌≡◌, ◌⊎◌, ℕ, ◌<◌, ◌≤◌, ◌==◌, List, Some, IsSome, Option}
+use Rattle.std.specs.Prelude.{◌≡◌, ◌⊎◌, ℕ, ◌<◌, ◌≤◌, ◌==◌, List, Some, IsSome}
 use Rattle.page_device.specs.Block.{Block}
 use Rattle.page_device.specs.declared.error.Damage.{Damage}
 use Rattle.page_layout.specs.declared.shape.Table.{Table}

@@ -2,3 +2,4 @@ pub mod Looked
 pub mod Faults
 pub mod Tables
 pub mod Mount
+pub mod Format

@@ -1,7 +1,6 @@
 -- What is read of the tables, and why the reading ends.
 use Rattle.std.specs.Prelude.{◌≡◌, ℕ, ◌+◌, ◌-◌, ◌*◌, ◌<◌, ◌≤◌, ◌==◌, List, Option, Some, None, IsSome, slice_index_or, min}
 use Rattle.page_device.specs.Block.{Block}
-use Rattle.page_device.specs.declared.error.Damage.{Damage}
 use Rattle.page_device.specs.Meaning.{Meaning}
 use Rattle.page_layout.specs.Numbers.{entry_of}
 use Rattle.page_layout.specs.Shape.{ShapeView, map_pages, count_pages, first_count_page, map_place, count_place}

@@ -2,14 +2,11 @@
 use Rattle.std.proofs.Common.{◌≡◌, ℕ, zero, suc, ◌-◌, ◌+◌, ◌<◌, ◌≤◌, nat_le, cond, Bool, true, false, List, [], ◌∷◌, ◌++◌, length, take, drop, get_or, replicate, refl, sym, ◌∙◌, ap, arith, append_assoc}
 use Rattle.std.proofs.lemmas.Bool.{le-leb}
 use Rattle.std.proofs.lemmas.Bool.Decides.{nat_tests}
-use Rattle.std.proofs.lemmas.List.{take-append-le, length-replicate}
 use Rattle.std.proofs.Math.ListN.{drop_of_length-le}
 use Rattle.std.proofs.Math.Seq.{drop-cons}
 use Rattle.page_device.specs.declared.device.LogEntry.{LogEntry}
 use Rattle.page_device.specs.Disk.{DeviceState, after, state_after}
-use Rattle.page_device.specs.Moments.{state_after-append}
 use Rattle.page_device.specs.Memory.{lost_call, entries_of, kept_at}
-use Rattle.page_device.proofs.States.{after_lost}
 
 -- some of the lost calls
 some_lost : (s : DeviceState) (n lost : ℕ) (rest : List LogEntry) → n ≤ lost → state_after s (take n (replicate lost lost_call ++ rest)) ≡ s

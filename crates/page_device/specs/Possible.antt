@@ -1,6 +1,6 @@
 -- What a page may hold, call after call.
-use Rattle.std.specs.Prelude.{◌≡◌, ◌⊎◌, ℕ, ◌<◌, List, [], ◌∷◌, ◌++◌, length, slice_get, slice_set, Some, refl}
-use Rattle.std.proofs.Common.{inl, inr, ⊎_elim, sym, ◌∙◌, subst, arith, length-set}
+use Rattle.std.specs.Prelude.{◌≡◌, ◌⊎◌, ℕ, ◌+◌, ◌<◌, ◌≤◌, List, [], ◌∷◌, ◌++◌, length, slice_get, slice_set, Some, refl}
+use Rattle.std.proofs.Common.{inl, inr, ⊎_elim, sym, ◌∙◌, subst, arith, length-set, length-append}
 use Rattle.std.proofs.lemmas.Option.{slice_get_within}
 use Rattle.std.proofs.lemmas.Bool.{cases_eq}
 use Rattle.page_device.specs.declared.device.End.TheVariants.{Done, Refused, Taken}
@@ -72,6 +72,22 @@ pub length-state_after : (s : DeviceState) (entries : List LogEntry) → length 
 unfolding state_after
 length-state_after s [] = refl
 length-state_after s (entry ∷ entries) = length-state_after (after s entry) entries ∙ length-after s entry
+
+-- a call adds one content at most to those written since
+since_after : (s : DeviceState) (entry : LogEntry) → length (after s entry).since ≤ length s.since + 1
+unfolding after
+since_after s (Write page block Done) = omega (arith, length-append s.since ((page, block) ∷ []))
+since_after s (Write page block Taken) = omega (arith, length-append s.since ((page, block) ∷ []))
+since_after s (Write page block Refused) = omega arith
+since_after s (Flush Done) = omega arith
+since_after s (Flush Taken) = omega arith
+since_after s (Flush Refused) = omega arith
+
+-- so there are no more of them than calls
+pub length-since : (s : DeviceState) (entries : List LogEntry) → length (state_after s entries).since ≤ length s.since + length entries
+unfolding state_after
+length-since s [] = omega arith
+length-since s (entry ∷ entries) = omega (arith, length-since (after s entry) entries, since_after s entry)
 
 pub overlay-append : (pages : List Block) (xs ys : List (ℕ × Block)) → overlay pages (xs ++ ys) ≡ overlay (overlay pages xs) ys
 unfolding overlay

@@ -9,6 +9,9 @@ use std::fs::{OpenFile, OpenOptions};
 use std::io::{Read, Seek, SeekFrom, Write};
 use std::rt::Files;
 
+#[cfg(test)]
+mod tests;
+
 const PAGE_BYTES: u64 = 4096;
 
 /// A file, or a block device node such as a disk, a partition or a network block device, by its path.
@@ -18,15 +21,19 @@ const PAGE_BYTES: u64 = 4096;
 /// whole at its place, 4096 bytes from `4096 * page` on; a barrier is `sync_all`. Each error of the
 /// system is one fault and is counted.
 ///
-/// After a barrier failed, every later call of this object answers `Failed`: a system reports a write
-/// that it lost once, and may drop it then, so that a later success would be a lie. Open the image
-/// anew: it is one that a crash may have left.
+/// A `room` that adds pages makes the file longer by zeros, and syncs it, so that they are fixed at once.
+/// What a file has behind its whole pages is cut off then. A block device node can't be made longer: there
+/// such a `room` fails.
+///
+/// After a sync failed, at the opening, of new pages or of a barrier, every later call of this object
+/// answers `Failed`: a system reports a write that it lost once, and may drop it then, so that a later
+/// success would be a lie. Open the image anew: it is one that a crash may have left.
 #[derive(Drop)]
 pub struct FileDevice<'r, R: Files> {
     rt: &'r R,
     path: String,
     file: Option<R::File>,
-    // A barrier failed.
+    // A sync failed.
     lost: bool,
     pages: u32,
     faults: u64,
@@ -75,7 +82,9 @@ fn write_whole<F: Write + Seek>(
 }
 
 // Syncs the file.
-fn sync_whole<F: OpenFile>(file: &Option<F>) -> Result<(), Failed> {
+fn sync_whole<F: OpenFile>(file: &Option<F>) -> Result<(), Failed>
+    ensures { OnOk result (IsSome file.now) }
+{
     let Some(file) = file else {
         return Err(Failed);
     };
@@ -85,47 +94,50 @@ fn sync_whole<F: OpenFile>(file: &Option<F>) -> Result<(), Failed> {
     Ok(())
 }
 
-// Opens the file, creating a missing one, and syncs it.
-fn open_synced<R: Files>(rt: &R, path: &str) -> Result<R::File, Failed> {
-    let Ok(file) = OpenOptions::new()
+// Opens the file, creating a missing one.
+fn open_file<R: Files>(rt: &R, path: &str) -> Result<R::File, Failed> {
+    match OpenOptions::new()
         .read(true)
         .write(true)
         .create(true)
         .open(rt, path)
-    else {
-        return Err(Failed);
-    };
-    if file.sync_all().is_err() {
-        return Err(Failed);
-    }
-    Ok(file)
-}
-
-// The whole pages of the file, by seeking to its end: a block device node has no length of its own.
-fn whole_pages<F: Seek>(file: &mut F) -> Result<u64, Failed> {
-    match file.seek(SeekFrom::End(0)) {
-        Ok(bytes) => Ok(bytes / PAGE_BYTES),
+    {
+        Ok(file) => Ok(file),
         Err(_) => Err(Failed),
     }
 }
 
-// Makes the file at least so many pages large, of which `had` were there before, and gives how many
-// there are now. A file that became shorter than that is a fault.
-fn make_room<F: Seek + OpenFile>(file: &mut F, asked: u32, had: u32) -> Result<u32, Failed>
-    ensures enough { IfOk result (λ pages. asked ≤ pages) }
+// The whole pages of the file, by seeking to its end: a block device node has no length of its own. A
+// file of fewer pages than it had is a fault.
+fn whole_pages<F: Seek>(file: &mut Option<F>, had: u32) -> Result<u32, Failed>
     ensures never_fewer { IfOk result (λ pages. had ≤ pages) }
+    ensures open { OnOk result (IsSome file.new) }
 {
-    let there = whole_pages(file)?.min(u64::from(u32::MAX)) as u32;
-    if there < had {
+    let Some(file) = file else {
+        return Err(Failed);
+    };
+    let Ok(bytes) = file.seek(SeekFrom::End(0)) else {
+        return Err(Failed);
+    };
+    let pages = (bytes / PAGE_BYTES).min(u64::from(u32::MAX)) as u32;
+    if pages < had {
         return Err(Failed);
     }
-    if there >= asked {
-        return Ok(there);
-    }
-    if file.set_len(u64::from(asked) * PAGE_BYTES).is_err() {
+    Ok(pages)
+}
+
+// Makes the file of so many whole pages longer. What it has behind them is cut off first: it would stay
+// at the beginning of the first new page, which is to be zeros.
+fn lengthen<F: OpenFile>(file: &Option<F>, whole: u32, asked: u32) -> Result<(), Failed> {
+    let Some(file) = file else {
         return Err(Failed);
+    };
+    for pages in [whole, asked] {
+        if file.set_len(u64::from(pages) * PAGE_BYTES).is_err() {
+            return Err(Failed);
+        }
     }
-    Ok(asked)
+    Ok(())
 }
 
 impl<'r, R: Files> FileDevice<'r, R> {
@@ -144,42 +156,51 @@ impl<'r, R: Files> FileDevice<'r, R> {
         }
     }
 
-    // Opens the file where it is not open.
+    // Opens the file where it is not open, and syncs it then.
     fn open(&mut self) -> Result<(), Failed>
         ensures pages { self.new.pages ≡ self.old.pages }
         ensures faults { self.new.faults ≡ self.old.faults }
-        ensures closed { self.old.lost ≡ true → IsErr result }
-        ensures lost { self.new.lost ≡ self.old.lost }
+        ensures open { OnOk result (IsSome self.new.file) }
+        ensures lost { OnOk result (self.new.lost ≡ false) }
+        ensures closed { self.old.lost ≡ true → (IsErr result) × (self.new.lost ≡ true) }
     {
         if self.lost {
             return Err(Failed);
         }
-        if self.file.is_none() {
-            self.file = Some(open_synced(self.rt, self.path.as_str())?);
+        if self.file.is_some() {
+            return Ok(());
         }
-        Ok(())
+        self.file = Some(open_file(self.rt, self.path.as_str())?);
+        self.sync()
     }
 
-    // Opens the file where it is not open, and makes room.
+    // Opens the file where it is not open, makes room, and fixes the pages that it adds.
     fn grow(&mut self, asked: u32) -> Result<u32, Failed>
         ensures pages { self.new.pages ≡ self.old.pages }
         ensures faults { self.new.faults ≡ self.old.faults }
         ensures enough { IfOk result (λ pages. asked ≤ pages) }
         ensures never_fewer { IfOk result (λ pages. self.old.pages ≤ pages) }
-        ensures closed { self.old.lost ≡ true → IsErr result }
-        ensures lost { self.new.lost ≡ self.old.lost }
+        ensures open { OnOk result (IsSome self.new.file) }
+        ensures lost { OnOk result (self.new.lost ≡ false) }
+        ensures closed { self.old.lost ≡ true → (IsErr result) × (self.new.lost ≡ true) }
     {
         self.open()?;
-        let Some(file) = &mut self.file else {
-            return Err(Failed);
-        };
-        make_room(file, asked, self.pages)
+        let whole = whole_pages(&mut self.file, self.pages)?;
+        if whole >= asked {
+            return Ok(whole);
+        }
+        lengthen(&self.file, whole, asked)?;
+        self.sync()?;
+        Ok(asked)
     }
 
     // Syncs the file, and closes it for good where that fails.
     fn sync(&mut self) -> Result<(), Failed>
         ensures pages { self.new.pages ≡ self.old.pages }
         ensures faults { self.new.faults ≡ self.old.faults }
+        ensures unopened { OnOk result (IsSome self.old.file) }
+        ensures open { OnOk result (IsSome self.new.file) }
+        ensures lost { OnOk result (self.new.lost ≡ false) }
         ensures closed { self.old.lost ≡ true → (IsErr result) × (self.new.lost ≡ true) }
         ensures loses { IsErr result → IsSome self.old.file → self.new.lost ≡ true }
     {
@@ -221,6 +242,7 @@ impl<'r, R: Files> Device for FileDevice<'r, R> {
         ensures cause { HasCause result (file_seen self.old.pages self.old.faults) (file_seen self.new.pages self.new.faults) }
         ensures grown { OnOk result (Grows pages (file_seen self.old.pages self.old.faults) (file_seen self.new.pages self.new.faults)) }
         ensures untouched { OnErr result (IsUntouched (file_seen self.old.pages self.old.faults) (file_seen self.new.pages self.new.faults)) }
+        ensures open { OnOk result (IsSome self.new.file) }
         ensures closed { self.old.lost ≡ true → (IsErr result) × (self.new.lost ≡ true) }
     {
         match self.grow(pages) {
@@ -262,6 +284,7 @@ impl<'r, R: Files> Device for FileDevice<'r, R> {
     fn flush(&mut self) -> Result<(), Failed>
         ensures cause { HasCause result (file_seen self.old.pages self.old.faults) (file_seen self.new.pages self.new.faults) }
         ensures call { OneCall (FlushEntry result) (file_seen self.old.pages self.old.faults) (file_seen self.new.pages self.new.faults) }
+        ensures unopened { OnOk result (IsSome self.old.file) }
         ensures closed { self.old.lost ≡ true → (IsErr result) × (self.new.lost ≡ true) }
         ensures loses { IsErr result → IsSome self.old.file → self.new.lost ≡ true }
     {

@@ -236,7 +236,8 @@ impl MemDevice {
     /// of page `j` the fixed content where `choice[j]` is 0, and where it is `i` the `i`-th content written
     /// since the last barrier, or the last one where there are fewer. A page past the end of `choice` takes
     /// 0. A moment past the last call is the one after all calls. The device has as many pages as this one
-    /// has now. Goes over the pages and the whole log.
+    /// has now. Each image that a crash may leave at that moment is given by some choice, as long as there
+    /// were fewer than 2^32 calls (`left_is_chosen`). Goes over the pages and the whole log.
     pub fn image(&self, at: u64, choice: &[u32]) -> Result<MemDevice, NoMemory>
         ensures chosen { IfOk result (λ image. IsChosen (state_after (at_rest self.now.start) (take at self.now.all)) choice.now image.start) }
         ensures left { IfOk result (λ image. LeftAt (at_rest self.now.start) self.now.all at image.start) }

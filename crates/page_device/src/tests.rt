@@ -1,13 +1,10 @@
 // Each call once, and the images of a small history against a table made by hand.
 
-use crate::{Device, Failed, FileDevice, MemDevice, Page};
+use crate::{Device, Failed, MemDevice, Page};
 use std::alloc::Global;
-use std::fs;
-use std::rt::Files;
-use std::test::Fail;
 
 // Writes the block of a number.
-fn put<D: Device>(device: &mut D, page: u32, number: u64) -> Result<(), Failed> {
+pub fn put<D: Device>(device: &mut D, page: u32, number: u64) -> Result<(), Failed> {
     if page < device.pages() {
         return device.write(page, &Page::numbered(number));
     }
@@ -15,7 +12,7 @@ fn put<D: Device>(device: &mut D, page: u32, number: u64) -> Result<(), Failed> 
 }
 
 // The last byte of the number of the block that a read gives.
-fn got<D: Device>(device: &mut D, page: u32) -> Result<u8, Failed> {
+pub fn got<D: Device>(device: &mut D, page: u32) -> Result<u8, Failed> {
     let mut into = Page::zero();
     if page < device.pages() {
         device.read(page, &mut into)?;
@@ -84,18 +81,6 @@ fn three_reads(device: &mut MemDevice) -> [Result<u8, Failed>; 3] {
     [got(device, 0), got(device, 0), got(device, 0)]
 }
 
-// What a file gives back, which has no page before its first `room`.
-fn through_file<R: Files>(rt: &R, path: String) -> Result<u8, Failed> {
-    let mut device = FileDevice::named(rt, path);
-    if device.flush().is_ok() {
-        return Err(Failed);
-    }
-    device.room(2)?;
-    put(&mut device, 1, 9)?;
-    device.flush()?;
-    got(&mut device, 1)
-}
-
 #[test]
 fn gives_each_image(rt: HostRuntime) {
     let Ok(device) = history(rt.alloc()) else {
@@ -150,21 +135,4 @@ fn lies_where_planned(rt: HostRuntime) {
     assert_eq!(rt; device.lie(2, &Page::numbered(6)), Ok(()));
     assert_eq!(rt; three_reads(&mut device), [Err(Failed), Ok(6), Ok(0)]);
     assert_eq!(rt; device.reads(), 3);
-}
-
-#[test]
-fn keeps_pages_in_a_file(rt: HostRuntime) -> Result<(), Fail> {
-    let path = String::from_str(rt.alloc(), "page_device_test.img")?;
-    assert_eq!(rt; through_file(&rt, path), Ok(9));
-    assert!(rt; fs::remove_file(&rt, "page_device_test.img").is_ok());
-    Ok(())
-}
-
-#[test]
-fn refuses_a_missing_folder(rt: HostRuntime) -> Result<(), Fail> {
-    let path = String::from_str(rt.alloc(), "no_such_folder/image")?;
-    let mut device = FileDevice::named(&rt, path);
-    assert_eq!(rt; device.room(0), Err(Failed));
-    assert_eq!(rt; device.flush(), Err(Failed));
-    Ok(())
 }

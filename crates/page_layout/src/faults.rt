@@ -10,8 +10,8 @@ use crate::zeros::are_zero;
 use crate::{Shape, Table};
 use page_device::{Damage, Page};
 
-// The largest count.
-const MAX_COUNT: u32 = 2_147_483_647;
+/// The largest count of a data page.
+pub const MAX_COUNT: u32 = 2_147_483_647;
 
 /// The first malformed entry of a table page, in rising order; none exactly where the page is well
 /// formed for its place. Malformed are: in the map a data page above the last one, a count above

@@ -15,7 +15,7 @@ mod tests;
 mod zeros;
 
 pub use entries::{count_entry, map_entry, set_count_entry, set_map_entry};
-pub use faults::table_fault;
+pub use faults::{MAX_COUNT, table_fault};
 pub use prints::{print_entry, set_print_entry};
 pub use shape::{BadShape, Shape, Table};
 pub use superblock::{NotFormatted, read_super, super_page};

@@ -1,5 +1,4 @@
 -- Why a session does not begin.
-use Rattle.std.specs.Prelude.{List}
 use Rattle.page_device.specs.Meaning.{Meaning}
 use Rattle.mount_reader.specs.declared.error.MountError.TheVariants as error
 use Rattle.mount_reader.specs.Mount.{MountCause}

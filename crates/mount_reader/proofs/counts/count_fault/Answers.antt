@@ -1,4 +1,4 @@
-use Rattle.std.proofs.Common.{◌≡◌, ℕ, ◌-◌, ◌<◌, ◌≤◌, Option, arith, subst, sym, ◌∙◌, ap}
+use Rattle.std.proofs.Common.{◌≡◌, ℕ, ◌-◌, arith, subst, sym}
 use Rattle.page_layout.specs.Shape.{first_count_page}
 use Rattle.page_layout.specs.Entries.{IsEntry, IsFirstFault}
 use Rattle.page_layout.specs.declared.shape.Table.TheVariants.{Count}

@@ -1,16 +1,15 @@
-use Rattle.std.proofs.Common.{◌≡◌, ℕ, ◌+◌, ◌-◌, ◌<◌, ◌≤◌, List, Some, None, Option, sym, ◌∙◌, ap, subst, arith, length, add-one}
+use Rattle.std.proofs.Common.{◌≡◌, ℕ, ◌+◌, ◌-◌, ◌<◌, ◌≤◌, List, Some, None, sym, ◌∙◌, ap, subst, arith, length, add-one}
 use Rattle.page_device.specs.Block.{Block}
 use Rattle.page_device.specs.Disk.{newest}
-use Rattle.page_layout.specs.Shape.{first_count_page, map_pages}
+use Rattle.page_layout.specs.Shape.{first_count_page}
 use Rattle.page_layout.specs.Tables.{page_of, IsMapPage}
 use Rattle.page_layout.specs.Entries.{IsEntry, IsFirstFault}
 use Rattle.page_layout.specs.declared.shape.Table.TheVariants.{Map}
 use Rattle.page_layout.proofs.TablePages.{page_of_entries}
-use Rattle.mount_reader.specs.Looked.{Looked}
 use Rattle.mount_reader.specs.Tables.{FitBetween}
 use Rattle.mount_reader.proofs.Looking.{looked_then, held_before}
 use Rattle.mount_reader.proofs.Entries.{map_table, map_fit, of_map}
-use Rattle.mount_reader.proofs.Firsts.{fit_none, fit_more, first_here}
+use Rattle.mount_reader.proofs.Firsts.{fit_more, first_here}
 use Rattle.mount_reader.proofs.Pushed.{pushed, pushed_length}
 use Rattle.mount_reader.proofs.maps.read_maps.Goals as goal
 

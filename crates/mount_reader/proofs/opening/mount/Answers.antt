@@ -1,4 +1,4 @@
-use Rattle.std.proofs.Common.{◌≡◌, ℕ, ◌≤◌, ◌<◌, List, sym, ◌∙◌, ap, subst, arith}
+use Rattle.std.proofs.Common.{◌≡◌, ℕ, List, sym, ◌∙◌, ap, subst, arith}
 use Rattle.page_device.specs.Block.{Block}
 use Rattle.page_device.specs.Disk.{DeviceState, newest, at_rest}
 use Rattle.page_layout.specs.Shape.{ShapeView, first_count_page, first_print_page, first_data_page}
@@ -6,7 +6,6 @@ use Rattle.page_layout.specs.Tables.{page_of, shape_of}
 use Rattle.array_model.specs.Images.{IsGood}
 use Rattle.array_model.specs.Array.{array_start}
 use Rattle.dedup_writer.specs.Stands.{StandsFor, AreCached}
-use Rattle.mount_reader.specs.Looked.{Looked, Holds}
 use Rattle.mount_reader.specs.Tables.{AreMaps, AreCounts, AreTallies, FitBetween, named_below, tally_of}
 use Rattle.mount_reader.proofs.Looking.{looked_then, held_before, newest_at_rest}
 use Rattle.mount_reader.proofs.Names.{names_are}

@@ -1,4 +1,4 @@
-use Rattle.std.proofs.Common.{◌≡◌, ℕ, ◌-◌, ◌<◌, ◌≤◌, List, Some, None, Option, sym, ◌∙◌, ap, subst, arith, add-one}
+use Rattle.std.proofs.Common.{◌≡◌, ℕ, ◌-◌, ◌<◌, ◌≤◌, List, Some, None, sym, ◌∙◌, subst, arith, add-one}
 use Rattle.page_device.specs.Block.{Block}
 use Rattle.page_device.specs.Disk.{newest}
 use Rattle.page_layout.specs.Shape.{first_print_page, first_data_page}

@@ -1,4 +1,3 @@
-use Rattle.std.proofs.Common.{List, ◌∙◌}
 use Rattle.page_device.proofs.ChosenSteps.{chosen_goes, chosen_passes, chosen_ends}
 use Rattle.page_device.proofs.image.set_some.Goals as goal
 use Rattle.page_device.proofs.image.set_some.Goals.{then-take_one, else-take_one}

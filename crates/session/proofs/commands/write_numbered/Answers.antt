@@ -1,4 +1,4 @@
-use Rattle.std.proofs.Common.{sym, subst, refl, true, Err}
+use Rattle.std.proofs.Common.{sym, subst, refl, Err}
 use Rattle.page_device.specs.Block.{Block}
 use Rattle.trace_text.specs.declared.reply.Reply.{Reply}
 use Rattle.array_model.specs.Turns.{known}

@@ -1,4 +1,4 @@
-use Rattle.std.proofs.Common.{◌≡◌, sym, ◌∙◌, ap, subst, arith}
+use Rattle.std.proofs.Common.{sym, ◌∙◌, ap, subst, arith}
 use Rattle.page_device.specs.Block.{zero_block}
 use Rattle.page_layout.specs.Shape.{ShapeView}
 use Rattle.array_model.specs.Array.{writes_one}

@@ -1,5 +1,4 @@
-use Rattle.std.proofs.Common.{◌≡◌, ℕ, List, ◌∙◌, sym, ap, arith, length, take}
-use Rattle.page_device.specs.declared.device.LogEntry.{LogEntry}
+use Rattle.std.proofs.Common.{ℕ, List, ◌∙◌, sym, ap, arith, length, take}
 use Rattle.page_device.specs.Disk.{state_after}
 use Rattle.page_device.specs.Memory.{LogView, kept_at}
 use Rattle.page_device.proofs.KeptCalls.{kept_make, kept_within}

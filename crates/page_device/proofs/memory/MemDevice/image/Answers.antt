@@ -1,4 +1,4 @@
-use Rattle.std.proofs.Common.{◌≡◌, List, length, take, ap, sym, ◌∙◌, subst, arith, ℕ, []}
+use Rattle.std.proofs.Common.{List, length, take, ap, sym, ◌∙◌, subst, arith, ℕ, []}
 use Rattle.page_device.specs.Block.{Block}
 use Rattle.page_device.specs.Disk.{state_after, at_rest, IsImage}
 use Rattle.page_device.specs.Chosen.{chosen_is_image}

@@ -1,0 +1,4 @@
+pub mod Meaning
+pub mod Kinds
+pub mod Calls
+pub mod Boxes

@@ -1,0 +1,3 @@
+mod boxed;
+mod kinds;
+mod own;

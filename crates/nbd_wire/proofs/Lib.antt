@@ -1,0 +1,3 @@
+pub mod Parts
+pub mod RequestParts
+pub mod OptionParts

@@ -1,0 +1,5 @@
+pub mod Bits
+pub mod Marks
+pub mod Numbers
+pub mod Pool
+pub mod Kept
