@@ -1,6 +1,7 @@
 -- What is kept of each page.
-use Rattle.std.specs.Prelude.{◌≡◌, ◌<◌, ℕ, Bool, false, cond, List, Option, Some, None, nat_eq, is_some, length, slice_index_or}
+use Rattle.std.specs.Prelude.{eqb, ◌≡◌, ◌<◌, ℕ, Bool, false, cond, List, Option, Some, None, nat_eq, is_some, length, slice_index_or}
 use Rattle.std.specs.Map.{lookup}
+use Rattle.birth_marks.specs.declared.births.Pair.{Pair}
 use Rattle.birth_marks.specs.declared.pages.Mark.{Mark}
 
 -- of a page that no change was on
@@ -10,6 +11,10 @@ fresh page = record { page = page; tried_at = 0; settled_at = 0; written = false
 -- a barrier settles a page that was written
 abbrev pub settled : ℕ → Mark → Mark
 settled moment m = record m { settled_at = cond m.written moment m.settled_at; written = false; last = cond m.written None m.last; loose = cond m.written m.last m.loose }
+
+-- what was noted for a page before it was settled, if that was at this moment
+abbrev pub loose_at : ℕ → Mark → Option Pair
+loose_at moment m = cond (eqb m.settled_at moment) m.loose None
 
 -- where the marks of a page stand, the marks, and for how many further pages there is room
 pub record PagesView : Type 0 where

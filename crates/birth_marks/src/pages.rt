@@ -1,6 +1,6 @@
 // What is kept of each page with a map or with prints.
-ghost use Rattle.std.specs.Prelude.{◌≡◌, ℕ, ◌<◌, ◌≤◌, ◌+◌, ◌&&◌, ◌||◌, eqb, cond, false, true, length, map, OnOk, Some};
-ghost use Rattle.birth_marks.specs.Pages.{fresh as fresh_mark, is_known, mark_of, place_of, settled};
+ghost use Rattle.std.specs.Prelude.{◌≡◌, ℕ, ◌<◌, ◌≤◌, ◌+◌, ◌&&◌, ◌||◌, eqb, cond, false, true, length, map, slice_index_or, OnOk, Some};
+ghost use Rattle.birth_marks.specs.Pages.{fresh as fresh_mark, is_known, loose_at, mark_of, place_of, settled};
 
 use crate::NoMemory;
 use crate::births::Pair;
@@ -182,6 +182,7 @@ impl Pages {
     // The pair that was noted last for a page that was settled at this moment, before that.
     pub fn loose(&self, place: usize, moment: u64) -> Option<Pair>
         requires { place < length self.now.marks }
+        ensures { result ≡ loose_at moment (slice_index_or self.now.marks place (fresh_mark 0)) }
     {
         let mark = self.marks[place];
         if mark.settled_at == moment {
