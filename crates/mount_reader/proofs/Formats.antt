@@ -1,16 +1,16 @@
 -- Formatting, call by call.
-use Rattle.std.proofs.Common.{◌≡◌, ◌⊎◌, inl, inr, ⊎_elim, ℕ, suc, ◌+◌, ◌-◌, ◌<◌, ◌≤◌, true, List, length, refl, sym, ◌∙◌, ap, subst, arith, slice_get, slice_set, Some, Result, Ok, Err, take}
+use Rattle.std.proofs.Common.{◌≡◌, inl, inr, ⊎_elim, ℕ, suc, ◌<◌, ◌≤◌, List, length, sym, ◌∙◌, ap, subst, arith, slice_get, slice_set, Some, Result, Ok, Err}
 use Rattle.std.proofs.lemmas.Option.{slice_get-get_or, get_or_from_slice_get}
 use Rattle.std.proofs.lemmas.List.{get_or-set_same, get_or-set_other}
 use Rattle.std.proofs.lemmas.Bool.{cases_eq}
 use Rattle.page_device.specs.Block.{Block, zero_block}
 use Rattle.page_device.specs.declared.error.Failed.{Failed}
-use Rattle.page_device.specs.Disk.{DeviceState, IsImage, MayHold, WasWritten, newest, at_rest, written, settled}
+use Rattle.page_device.specs.Disk.{DeviceState, IsImage, MayHold, WasWritten, newest, written, settled}
 use Rattle.page_device.specs.Possible.{Only, only_put, only_other, only_settled, after_holds, settled_image, length-overlay, newest_written}
 use Rattle.page_device.specs.Meaning.{Meaning, OneCall, WriteEntry, FlushEntry}
-use Rattle.page_device.specs.Moments.{EachImage, Leaves, leaves_start, leaves_call, leaves_then, leaves_weaker}
-use Rattle.page_layout.specs.Shape.{ShapeView, IsSuperblock, total, first_data_page, told_shape, magic}
-use Rattle.page_layout.specs.Tables.{page_of, shape_of, HasShape, IsFresh}
+use Rattle.page_device.specs.Moments.{EachImage, Leaves, leaves_start, leaves_call, leaves_then}
+use Rattle.page_layout.specs.Shape.{ShapeView, IsSuperblock, total, first_data_page, told_shape}
+use Rattle.page_layout.specs.Tables.{page_of, shape_of}
 use Rattle.dedup_writer.specs.Put.{Puts, PutsPage, refused, flushed}
 use Rattle.dedup_writer.proofs.Puts.{IsUsable, usable_after, write_state, done_state, flush_state, flushed_state}
 use Rattle.mount_reader.specs.Format.{IsNew, IsUnformatted, MayBePartway, LaysOut, Clears}
@@ -43,9 +43,9 @@ module _ (P : List Block → Type 0) (page : ℕ) (block : Block) (result : Resu
       by : {made : ℕ} → Puts page block result old new made → PutLeaves P page block result old new
       by (refused r) =
           let images : EachImage P new.state = ⊎_elim
-              (λ taken. subst (EachImage P) (sym taken) after)
-              (λ same. subst (EachImage P) (sym same) before)
-              (write_state page block (Err r.failed) old new usable.tells_pages r.write) in
+          (λ taken. subst (EachImage P) (sym taken) after)
+          (λ same. subst (EachImage P) (sym same) before)
+          (write_state page block (Err r.failed) old new usable.tells_pages r.write) in
           record {
             usable = usable_after (WriteEntry page block (Err r.failed)) old new r.write usable;
             leaves = leaves_call (WriteEntry page block (Err r.failed)) old new P usable.tells_pages r.write before images;
@@ -57,9 +57,9 @@ module _ (P : List Block → Type 0) (page : ℕ) (block : Block) (result : Resu
           let wrote : f.mid.state ≡ written old.state page block = done_state page block old f.mid usable.tells_pages f.write in
           let between : EachImage P f.mid.state = subst (EachImage P) (sym wrote) after in
           let images : EachImage P new.state = ⊎_elim
-              (λ done. subst (EachImage P) (sym done) (settled_images f.mid.state between))
-              (λ same. subst (EachImage P) (sym same) between)
-              (flush_state result f.mid new mid.tells_pages f.flush) in
+          (λ done. subst (EachImage P) (sym done) (settled_images f.mid.state between))
+          (λ same. subst (EachImage P) (sym same) between)
+          (flush_state result f.mid new mid.tells_pages f.flush) in
           record {
             usable = usable_after (FlushEntry result) f.mid new f.flush mid;
             leaves = leaves_then old f.mid new P P usable.tells_pages
@@ -172,9 +172,9 @@ module _ (k : ℕ) (old mid new : Meaning) (u : IsUsable old) (so_far : ClearsUp
   clear_fails shape failed call =
       let before = unformatted mid.state so_far.usable.as_many so_far.superblock in
       let only : Only new.state 0 zero_block = ⊎_elim
-          (λ wrote. subst (λ (s : DeviceState). Only s 0 zero_block) (sym wrote) still_only)
-          (λ same. subst (λ (s : DeviceState). Only s 0 zero_block) (sym same) so_far.superblock)
-          (write_state k zero_block (Err failed) mid new so_far.usable.tells_pages call) in
+      (λ wrote. subst (λ (s : DeviceState). Only s 0 zero_block) (sym wrote) still_only)
+      (λ same. subst (λ (s : DeviceState). Only s 0 zero_block) (sym same) so_far.superblock)
+      (write_state k zero_block (Err failed) mid new so_far.usable.tells_pages call) in
       let later = usable_after (WriteEntry k zero_block (Err failed)) mid new call so_far.usable in
       record {
         leaves = leaves_then old mid new IsUnformatted IsUnformatted u.tells_pages so_far.leaves (λ _ h. h)

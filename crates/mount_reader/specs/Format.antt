@@ -1,10 +1,10 @@
 -- What formatting leaves.
-use Rattle.std.specs.Prelude.{◌≡◌, ◌⊎◌, ℕ, ◌<◌, ◌≤◌, ◌^◌, true, List, length, Result, Ok}
+use Rattle.std.specs.Prelude.{◌≡◌, ◌⊎◌, ℕ, ◌<◌, ◌≤◌, true, List, Result, Ok}
 use Rattle.page_device.specs.Block.{Block, zero_block}
 use Rattle.page_device.specs.declared.error.Failed.{Failed}
 use Rattle.page_device.specs.Disk.{DeviceState, IsImage, newest}
 use Rattle.page_device.specs.Possible.{Only}
-use Rattle.page_device.specs.Meaning.{Meaning, Grows, IsUntouched}
+use Rattle.page_device.specs.Meaning.{Meaning, Grows}
 use Rattle.page_device.specs.Moments.{EachImage, Leaves}
 use Rattle.page_layout.specs.Shape.{ShapeView, IsSuperblock, total, first_data_page}
 use Rattle.page_layout.specs.Tables.{page_of, shape_of, IsFresh}

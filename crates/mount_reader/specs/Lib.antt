@@ -3,3 +3,4 @@ pub mod Faults
 pub mod Tables
 pub mod Mount
 pub mod Format
+pub mod NewImages

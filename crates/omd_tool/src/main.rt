@@ -1,5 +1,5 @@
-//! The program `omd_tool IMAGE trace`: a session of the trace language over an image, which is a file or
-//! a block device node.
+//! The program. `omd_tool IMAGE trace` is a session of the trace language over an image, which is a file
+//! or a block device node; `omd_tool IMAGE format --blocks L --pages N` makes a new image.
 //!
 //! Commands come from standard input, replies go to standard output, and the exit status says how the
 //! session ended (`docs/ARCHITECTURE.md`).
@@ -12,7 +12,7 @@ use std::alloc::{AllocError, Global};
 use std::process::ExitCode;
 use std::{env, io};
 
-const USAGE: &str = "usage: omd_tool IMAGE trace";
+const USAGE: &str = "usage: omd_tool IMAGE trace | omd_tool IMAGE format --blocks L --pages N";
 
 // The words that are left.
 fn rest(alloc: Global, words: env::Args) -> Result<Vec<String>, AllocError> {

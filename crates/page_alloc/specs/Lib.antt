@@ -3,3 +3,4 @@ pub mod Marks
 pub mod Numbers
 pub mod Pool
 pub mod Kept
+pub mod Calls

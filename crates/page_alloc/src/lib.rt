@@ -8,11 +8,13 @@
 
 mod bits;
 mod groups;
+mod laws;
 mod marks;
 mod numbers;
 mod pool;
 #[cfg(test)]
 mod tests;
 
+pub use laws::calls_tell;
 pub use page_device::NoMemory;
 pub use pool::Pool;

@@ -1,5 +1,5 @@
 // The call that the program makes.
-ghost use Rattle.std.specs.Prelude.{◌≡◌, ◌↔◌, ◌≤◌, ◌<◌, ◌+◌, ◌^◌, map, IsTrue};
+ghost use Rattle.std.specs.Prelude.{◌≡◌, ◌⊎◌, ◌≤◌, ◌<◌, ◌+◌, ◌^◌, map};
 ghost use Rattle.std.specs.String.{string_bytes};
 ghost use Rattle.dedup_writer.specs.Calls.{FaultRose};
 ghost use Rattle.page_device.specs.declared.error.Damage.{Damage};
@@ -7,29 +7,54 @@ ghost use Rattle.page_layout.specs.Tables.{HasShape};
 ghost use Rattle.mount_reader.specs.Looked.{Holds};
 ghost use Rattle.mount_reader.specs.Faults.{IsFirstDamage};
 ghost use Rattle.session.specs.Reading.{TakesAll};
-ghost use Rattle.session.specs.Run.{trace_word, IsTrace, TraceOutcome, Outcome};
+ghost use Rattle.session.specs.Run.{AsksFor, IsAction, new_shape, TraceOutcome, FormatOutcome, Outcome};
 
 use crate::opening::open;
 use crate::session::serve_trace;
 use crate::status::{Status, end_with};
 use byte_ports::{Sink, Source};
+use cli_words::{Job, WordsError};
+use mount_reader::{FormatError, format};
 use page_device::Device;
 use std::alloc::Global;
 
-// The word is `trace`.
-fn is_trace_word(word: &[u8]) -> bool
-    ensures { IsTrue result ↔ (word.now ≡ trace_word) }
-{
-    word == b"trace".as_slice()
+// What is done for a job.
+#[derive(Drop)]
+enum Action {
+    Trace,
+    Format { blocks: u32, pages: u32 },
+    // Not built.
+    Other,
 }
 
-// The words are `trace` alone.
-fn is_trace(words: &[String]) -> bool
-    ensures { IsTrue result ↔ IsTrace (map string_bytes words.now) }
+fn action_of(job: Job) -> Action
+    ensures { IsAction job result }
 {
-    match words {
-        [word] => is_trace_word(word.as_str().as_bytes()),
-        _ => false,
+    match job {
+        Job::Trace { cache: _, policy } => {
+            if policy == 0 {
+                return Action::Trace;
+            }
+            Action::Other
+        }
+        Job::Format { blocks, pages } => Action::Format { blocks, pages },
+        _ => Action::Other,
+    }
+}
+
+// A new image on a device.
+fn format_image<K: Sink, D: Device>(blocks: u32, pages: u32, sink: &mut K, device: &mut D) -> Status
+    requires blocks { (1 ≤ blocks) × (blocks ≤ 4194304) }
+    requires pages { (1 ≤ pages) × (pages ≤ 1048576) }
+    ensures sink_cause { result ≡ Status.SinkFault → (K.seen sink.old).faults + 1 < 2 ^ 64 → (K.seen sink.old).faults < (K.seen sink.new).faults }
+    ensures device_cause { result ≡ Status.DeviceFault → FaultRose (D.seen device.old) (D.seen device.new) }
+    ensures one_of { (result ≡ Status.Done) ⊎ (result ≡ Status.DeviceFault) ⊎ (result ≡ Status.SinkFault) }
+    ensures outcome { FormatOutcome (new_shape blocks pages) result (D.seen device.old) (D.seen device.new) (K.seen sink.old) (K.seen sink.new) }
+{
+    match format(blocks, pages, device) {
+        Ok(()) => Status::Done,
+        Err(FormatError::Device) => end_with(Status::DeviceFault, sink),
+        Err(FormatError::BadShape) => Status::Usage,
     }
 }
 
@@ -57,15 +82,16 @@ fn trace<S: Source, K: Sink, D: Device>(
     }
 }
 
-/// The program: `words` are those after the image's path, and must be `trace` alone. Opens the image of
-/// the device, of version 1 or 2, serves a session of the trace language over it, and gives the exit
-/// status.
+/// The program: `words` are those after the image's path. `trace` opens the image of the device, of
+/// version 1 or 2, and serves a session of the trace language over it; `format --blocks L --pages N` lays
+/// out a new image. Gives the exit status.
 ///
-/// At each moment of the session a crash leaves an image in which each block reads its last flushed
+/// At each moment of a session a crash leaves an image in which each block reads its last flushed
 /// content, or one written to it later; `specs/Run.antt` says all of it.
 ///
-/// Reads each table page once, and takes as much memory as the tables of the image are large: about
-/// 4 bytes for each block and 4 for each data page, and 4 more for each data page while it opens.
+/// A session reads each table page once, and takes as much memory as the tables of the image are large:
+/// about 4 bytes for each block and 4 for each data page, and 4 more for each data page while it opens.
+/// Formatting writes each table page once.
 pub fn run<S: Source, K: Sink, D: Device>(
     alloc: Global,
     words: &[String],
@@ -73,7 +99,8 @@ pub fn run<S: Source, K: Sink, D: Device>(
     sink: &mut K,
     device: &mut D,
 ) -> Status
-    ensures usage { result ≡ Status.Usage ↔ ¬ IsTrace (map string_bytes words.now) }
+    ensures usage { result ≡ Status.Usage → ¬ AsksFor (map string_bytes words.now) }
+    ensures other_words { ¬ AsksFor (map string_bytes words.now) → (result ≡ Status.Usage) ⊎ (result ≡ Status.NoMemory) ⊎ (result ≡ Status.SinkFault) }
     ensures source_cause { result ≡ Status.SourceFault → (S.seen source.old).faults + 1 < 2 ^ 64 → (S.seen source.old).faults < (S.seen source.new).faults }
     ensures sink_cause { result ≡ Status.SinkFault → (K.seen sink.old).faults + 1 < 2 ^ 64 → (K.seen sink.old).faults < (K.seen sink.new).faults }
     ensures device_cause { result ≡ Status.DeviceFault → FaultRose (D.seen device.old) (D.seen device.new) }
@@ -82,8 +109,13 @@ pub fn run<S: Source, K: Sink, D: Device>(
     ensures limit_cause { result ≡ Status.InputLimit → TakesAll (S.seen source.old) (S.seen source.new) }
     ensures outcome { Outcome (map string_bytes words.now) result (D.seen device.old) (D.seen device.new) (S.seen source.old) (S.seen source.new) (K.seen sink.old) (K.seen sink.new) }
 {
-    if !is_trace(words) {
-        return Status::Usage;
+    match cli_words::words(words) {
+        Ok(job) => match action_of(job) {
+            Action::Trace => trace(alloc, source, sink, device),
+            Action::Format { blocks, pages } => format_image(blocks, pages, sink, device),
+            Action::Other => Status::Usage,
+        },
+        Err(WordsError::Usage) => Status::Usage,
+        Err(WordsError::NoMemory) => end_with(Status::NoMemory, sink),
     }
-    trace(alloc, source, sink, device)
 }

@@ -13,7 +13,7 @@ use trace_text::{LineBuf, damage_text};
 pub enum Status {
     /// 0: the input was read to its end, each line was answered, and all of it is on the device.
     Done,
-    /// 2: the words are not `trace`.
+    /// 2: the words ask for no job that is built.
     Usage,
     /// 3: the source failed.
     SourceFault,

@@ -1,8 +1,8 @@
-// Whole sessions over a device in memory that holds a freshly formatted image of 4 blocks and 4 data
-// pages: what is put, and how they end.
+// The program over a device in memory, most often one that holds a freshly formatted image of 4 blocks and
+// 4 data pages: what is put, and how it ends.
 use crate::{Status, run};
 use byte_ports::{MemSink, MemSource};
-use page_device::{Device, MemDevice};
+use page_device::{Damage, Device, MemDevice, Page};
 use page_layout::{Shape, super_page};
 use std::alloc::Global;
 use std::test::Fail;
@@ -17,21 +17,34 @@ fn formatted(alloc: Global) -> Result<MemDevice, Fail> {
     Ok(device)
 }
 
-// A session of this input. Gives its status, and whether it put this text.
+// The program with these words and this input. Gives its status, and whether it put this text.
+fn ends_with(
+    alloc: Global,
+    device: &mut MemDevice,
+    words: &[&str],
+    input: &str,
+    text: &str,
+) -> Result<(Status, bool), Fail> {
+    let mut list = Vec::new(alloc);
+    for word in words {
+        list.push(String::from_str(alloc, word)?)?;
+    }
+    let bytes = input.as_bytes().to_vec(alloc)?;
+    let mut source = MemSource::new(bytes, 3, Vec::new(alloc));
+    let mut sink = MemSink::new(alloc, Vec::new(alloc));
+    sink.reserve(1024)?;
+    let status = run(alloc, &list, &mut source, &mut sink, device);
+    Ok((status, sink.bytes() == text.as_bytes()))
+}
+
+// A session of this input.
 fn ends(
     alloc: Global,
     device: &mut MemDevice,
     input: &str,
     text: &str,
 ) -> Result<(Status, bool), Fail> {
-    let mut words = Vec::new(alloc);
-    words.push(String::from_str(alloc, "trace")?)?;
-    let bytes = input.as_bytes().to_vec(alloc)?;
-    let mut source = MemSource::new(bytes, 3, Vec::new(alloc));
-    let mut sink = MemSink::new(alloc, Vec::new(alloc));
-    sink.reserve(1024)?;
-    let status = run(alloc, &words, &mut source, &mut sink, device);
-    Ok((status, sink.bytes() == text.as_bytes()))
+    ends_with(alloc, device, &["trace"], input, text)
 }
 
 #[test]
@@ -49,6 +62,8 @@ fn answers(rt: HostRuntime) -> Result<(), Fail> {
             "0 bad\n0 bad\n0 bad\n0 bad\n0 bad\n",
         ),
         ("w 0 5\nf\nr 0", "6 ok\n6 ok\n6 data 0000000000000005\n"),
+        ("x 0 ABcd\nr 0\n", "6 ok\n6 data abcd\n"),
+        ("w 1 5\nd 1\nd 1\nr 1\n", "6 ok\n8 ok\n8 ok\n8 data -\n"),
     ];
     for (input, text) in rows {
         let mut device = formatted(rt.alloc())?;
@@ -74,5 +89,57 @@ fn tells_what_is_not_formatted(rt: HostRuntime) -> Result<(), Fail> {
     device.room(8)?;
     let end = ends(rt.alloc(), &mut device, "r 0\n", "not formatted\n")?;
     assert_eq!(rt; end, (Status::NotFormatted, true));
+    Ok(())
+}
+
+// The map entry of block 0 names a data page that is not there.
+#[test]
+fn tells_what_is_damaged(rt: HostRuntime) -> Result<(), Fail> {
+    let mut device = formatted(rt.alloc())?;
+    let mut map = Page::zero();
+    map.0[0] = 5;
+    if device.pages() > 1 {
+        device.write(1, &map)?;
+        device.flush()?;
+    }
+    let damage = Damage { page: 1, entry: 0 };
+    let end = ends(rt.alloc(), &mut device, "r 0\n", "damaged 1 0\n")?;
+    assert_eq!(rt; end, (Status::Damaged(damage), true));
+    Ok(())
+}
+
+// A new image is laid out by eight calls, written in one session, and read in the next.
+#[test]
+fn formats_writes_and_reads_again(rt: HostRuntime) -> Result<(), Fail> {
+    let mut device = MemDevice::holding(rt.alloc(), Vec::new(rt.alloc()));
+    let words = ["format", "--blocks", "4", "--pages=4"];
+    let end = ends_with(rt.alloc(), &mut device, &words, "", "")?;
+    assert_eq!(rt; (end, device.calls()), ((Status::Done, true), 8));
+    let end = ends(rt.alloc(), &mut device, "w 3 7\n", "6 ok\n")?;
+    assert_eq!(rt; end, (Status::Done, true));
+    let end = ends(
+        rt.alloc(),
+        &mut device,
+        "r 3\n",
+        "0 data 0000000000000007\n",
+    )?;
+    assert_eq!(rt; end, (Status::Done, true));
+    Ok(())
+}
+
+#[test]
+fn refuses_other_words(rt: HostRuntime) -> Result<(), Fail> {
+    let lists: [&[&str]; 5] = [
+        &[],
+        &["trace", "trace"],
+        &["check"],
+        &["trace", "--policy", "1"],
+        &["format", "--blocks", "4"],
+    ];
+    for words in lists {
+        let mut device = formatted(rt.alloc())?;
+        let end = ends_with(rt.alloc(), &mut device, words, "r 0\n", "")?;
+        assert_eq!(rt; end, (Status::Usage, true));
+    }
     Ok(())
 }

@@ -1,0 +1,25 @@
+use Rattle.std.proofs.Common.{arith}
+use Rattle.birth_marks.proofs.TableLemmas.{behind_still}
+use Rattle.birth_marks.proofs.births.Births.reserve.Goals as goal
+
+pub invariant_of-self : goal.invariant_of-self
+invariant_of-self c = (
+  behind_still _ _ c.room_for.ensures.records (λ s v. c.room_for.ensures.moments _) c.self.inside.moment c.self.invariant.0 (λ p. rw (c.room_for.ensures.mark p) (c.self.invariant.0.settled p)) (λ p. rw (c.room_for.ensures.mark p) (c.self.invariant.0.tried p)) c.room_for.ensures.known,
+  record {
+    pages_fit = omega (arith, c.room_for.ensures.room.0, c.self.invariant.1.pages_fit);
+    records_fit = omega (arith, c.room_for.ensures.room.1, c.self.invariant.1.records_fit);
+    moments_fit = omega (arith, c.room_for.ensures.room.2, c.self.invariant.1.moments_fit);
+    few = c.self.invariant.1.few;
+  },
+)
+
+pub invariant_of-self-2 : goal.invariant_of-self-2
+invariant_of-self-2 c = (
+  behind_still _ _ c.room_for.ensures.records (λ s v. c.room_for.ensures.moments _) c.self.inside.moment c.self.invariant.0 (λ p. rw (c.room_for.ensures.mark p) (c.self.invariant.0.settled p)) (λ p. rw (c.room_for.ensures.mark p) (c.self.invariant.0.tried p)) c.room_for.ensures.known,
+  record {
+    pages_fit = c.in-Ok.ensures.ok.0;
+    records_fit = c.in-Ok.ensures.ok.1;
+    moments_fit = c.in-Ok.ensures.ok.2;
+    few = c.in-Some.ensures.0;
+  },
+)

@@ -1,0 +1,12 @@
+use Rattle.std.proofs.Common.{arith, refl, sym}
+use Rattle.birth_marks.proofs.TableLemmas.{tried_behind, tried_is}
+use Rattle.birth_marks.proofs.births.Births.tried.Goals as goal
+
+pub invariant_of-self : goal.invariant_of-self
+invariant_of-self c = (
+  tried_behind _ _ (λ s. refl) (λ s v. refl) c.self.inside.moment c.args.at c.self.invariant.0 c.tried.ensures.mark c.tried.ensures.known,
+  record { pages_fit = omega (arith, c.tried.ensures.spare, c.self.invariant.1.pages_fit); records_fit = c.self.invariant.1.records_fit; moments_fit = c.self.invariant.1.moments_fit; few = c.self.invariant.1.few },
+)
+
+pub returns-clause-tried : goal.returns-clause-tried
+returns-clause-tried c = rw (sym c.self.view_is) (tried_is _ _ (λ s. refl) (λ s v. refl) c.self.inside.moment c.args.at c.self.invariant.0 c.tried.ensures.mark c.tried.ensures.known)

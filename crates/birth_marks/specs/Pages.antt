@@ -1,0 +1,45 @@
+-- What is kept of each page.
+use Rattle.std.specs.Prelude.{eqb, ◌≡◌, ◌<◌, ℕ, Bool, false, cond, List, Option, Some, None, nat_eq, is_some, length, slice_index_or}
+use Rattle.std.specs.Map.{lookup}
+use Rattle.birth_marks.specs.declared.births.Pair.{Pair}
+use Rattle.birth_marks.specs.declared.pages.Mark.{Mark}
+
+-- of a page that no change was on
+abbrev pub fresh : ℕ → Mark
+fresh page = record { page = page; tried_at = 0; settled_at = 0; written = false; last = None; loose = None }
+
+-- a barrier settles a page that was written
+abbrev pub settled : ℕ → Mark → Mark
+settled moment m = record m { settled_at = cond m.written moment m.settled_at; written = false; last = cond m.written None m.last; loose = cond m.written m.last m.loose }
+
+-- what was noted for a page before it was settled, if that was at this moment
+abbrev pub loose_at : ℕ → Mark → Option Pair
+loose_at moment m = cond (eqb m.settled_at moment) m.loose None
+
+-- where the marks of a page stand, the marks, and for how many further pages there is room
+pub record PagesView : Type 0 where
+  pub places : List (ℕ × ℕ)
+  pub marks : List Mark
+  pub spare : ℕ
+
+abbrev pub mark_at : ℕ → Option ℕ → List Mark → Mark
+mark_at page None marks = fresh page
+mark_at page (Some i) marks = slice_index_or marks i (fresh page)
+
+abbrev pub place_of : PagesView → ℕ → Option ℕ
+place_of v page = lookup (nat_eq page) v.places
+
+-- the marks of a page, and whether a change ever was on it
+abbrev pub mark_of : PagesView → ℕ → Mark
+mark_of v page = mark_at page (place_of v page) v.marks
+
+abbrev pub is_known : PagesView → ℕ → Bool
+is_known v page = is_some (place_of v page)
+
+-- the marks of a page stand at its place
+abbrev pub IsPlaced : ℕ → Option ℕ → List Mark → Type 0
+IsPlaced page None marks = Unit {0}
+IsPlaced page (Some i) marks = (i < length marks) × ((slice_index_or marks i (fresh page)).page ≡ page)
+
+abbrev pub ArePlaced : List (ℕ × ℕ) → List Mark → Type 0
+ArePlaced places marks = (page : ℕ) → IsPlaced page (lookup (nat_eq page) places) marks
