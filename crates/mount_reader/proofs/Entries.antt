@@ -25,7 +25,7 @@ pub print_table : (shape : ShapeView) (k : ℕ) → first_print_page shape ≤ k
 print_table shape k low high = let at : print_page shape (170 * (k - first_print_page shape) + 1) ≡ k = omega (arith, low) in
     subst (λ (n : ℕ). table_at shape n ≡ Some Print) at (print_page_table shape (170 * (k - first_print_page shape) + 1) (omega arith) (omega (arith, low, high)))
 
-the_table : (shape : ShapeView) (k : ℕ) (t u : Table) → table_at shape k ≡ Some u → table_at shape k ≡ Some t → u ≡ t
+pub the_table : (shape : ShapeView) (k : ℕ) (t u : Table) → table_at shape k ≡ Some u → table_at shape k ≡ Some t → u ≡ t
 the_table shape k t u one other = by (sym one ∙ other)
   where
     by : Some u ≡ Some t → u ≡ t

@@ -5,3 +5,4 @@ pub mod Firsts
 pub mod Pushed
 pub mod Fits
 pub mod Formats
+pub mod FitEntries

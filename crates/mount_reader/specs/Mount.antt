@@ -4,6 +4,7 @@ use Rattle.page_device.specs.Block.{Block}
 use Rattle.page_device.specs.Meaning.{Meaning}
 use Rattle.page_layout.specs.Shape.{ShapeView, IsSuperblock}
 use Rattle.page_layout.specs.Tables.{page_of, shape_of, HasShape}
+use Rattle.array_model.specs.Images.{IsFit}
 use Rattle.dedup_writer.specs.Calls.{FaultRose}
 use Rattle.mount_reader.specs.declared.error.MountError.{MountError}
 use Rattle.mount_reader.specs.declared.error.MountError.TheVariants.{Device, NotFormatted, Damaged, NoMemory}
@@ -21,3 +22,10 @@ MountCause Device old new = FaultRose old new
 MountCause NotFormatted old new = Holds (λ image. ¬ HasShape image) old
 MountCause (Damaged damage) old new = Holds (λ image. HasShape image × IsFirstDamage image damage) old
 MountCause NoMemory old new = Unit {0}
+
+-- an image that is refused is not fit
+abbrev pub IsRefusal : MountError → Meaning → Type 0
+IsRefusal Device old = Unit {0}
+IsRefusal NotFormatted old = Holds (λ image. ¬ IsFit image) old
+IsRefusal (Damaged damage) old = Holds (λ image. ¬ IsFit image) old
+IsRefusal NoMemory old = Unit {0}

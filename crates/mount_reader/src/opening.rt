@@ -7,7 +7,7 @@ ghost use Rattle.array_model.specs.Array.{array_start};
 ghost use Rattle.array_model.specs.Images.{Mode, IsFit, IsGood};
 ghost use Rattle.dedup_writer.specs.Stands.{StandsFor};
 ghost use Rattle.mount_reader.specs.Looked.{Looked, Holds};
-ghost use Rattle.mount_reader.specs.Mount.{TellsShape, MountCause};
+ghost use Rattle.mount_reader.specs.Mount.{TellsShape, MountCause, IsRefusal};
 
 use crate::MountError;
 use crate::counts::read_counts;
@@ -55,6 +55,7 @@ pub fn mount<D: Device>(alloc: Global, device: &mut D) -> Result<Store, MountErr
     ensures looked { Looked (D.seen device.old) (D.seen device.new) }
     ensures never_falls { (D.seen device.old).faults ≤ (D.seen device.new).faults }
     ensures cause { IfErr result (λ why. MountCause why (D.seen device.old) (D.seen device.new)) }
+    ensures refusal { IfErr result (λ why. IsRefusal why (D.seen device.old)) }
     ensures enough { IfOk result (λ store. total store.tables.shape ≤ (D.seen device.new).pages) }
     ensures calls { IfOk result (λ store. store.calls ≡ 0) }
     ensures shape { IfOk result (λ store. Holds (TellsShape store.tables.shape) (D.seen device.old)) }
@@ -62,7 +63,10 @@ pub fn mount<D: Device>(alloc: Global, device: &mut D) -> Result<Store, MountErr
     ensures stands { IfOk result (λ store. (D.seen device.old).honest ≡ true → (D.seen device.old).tells_pages ≡ true → (D.seen device.old).state ≡ at_rest (D.seen device.old).state.fixed
         → (mode : Mode) → IsGood mode (D.seen device.old).state.fixed → StandsFor mode store (D.seen device.new) (array_start (D.seen device.old).state.fixed)) }
 {
-    let shape = told_shape(device)?;
+    let shape = match told_shape(device) {
+        Ok(shape) => shape,
+        Err(why) => return Err(why),
+    };
     let maps = match read_maps(alloc, device, &shape) {
         Ok(maps) => maps,
         Err(why) => return Err(why),
