@@ -6,13 +6,12 @@
 #![tactic(auto)]
 
 use byte_ports::{StdSink, StdSource};
+use cli_words::USAGE;
 use page_device::FileDevice;
 use session::{Status, run};
 use std::alloc::{AllocError, Global};
 use std::process::ExitCode;
 use std::{env, io};
-
-const USAGE: &str = "usage: omd_tool IMAGE trace | omd_tool IMAGE format --blocks L --pages N";
 
 // The words that are left.
 fn rest(alloc: Global, words: env::Args) -> Result<Vec<String>, AllocError> {
