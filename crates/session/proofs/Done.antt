@@ -79,6 +79,15 @@ module _ (mode : Mode) (a : BlockArray) (unused : List ℕ) (c0 c1 : CoreView) (
   read_refused block (refusal.Full live waste) cause range call = absurd cause
   read_refused block refusal.NoMemory cause range call = absurd cause
 
+  -- a number for the policy, and an idle step: no policy is at work
+  pub tune_done : (n : ℕ) → StoreCall mode c0 c1 d0 d1 a a writes_nothing → AskedDone mode a unused (known (Tune n)) reply.Done c0 c1 d0 d1
+  unfolding FitsReply array_after writes
+  tune_done n call = record { fits = refl; call = record { stands = call.stands; leaves = call.leaves; counted = call.counted } }
+
+  pub tick_done : StoreCall mode c0 c1 d0 d1 a a writes_nothing → AskedDone mode a unused (known Tick) reply.Done c0 c1 d0 d1
+  unfolding FitsReply array_after writes
+  tick_done call = record { fits = refl; call = record { stands = call.stands; leaves = call.leaves; counted = call.counted } }
+
   pub flush_done : StoreCall mode c0 c1 d0 d1 a (flushed a) writes_nothing → AskedDone mode a unused (known Flush) reply.Done c0 c1 d0 d1
   unfolding FitsReply array_after writes
   flush_done call = record { fits = inl refl; call = record { stands = call.stands; leaves = call.leaves; counted = call.counted } }
@@ -126,5 +135,5 @@ one_command line command r c0 c1 d0 d1 is only cause falls runs = by command is 
     by Scan is only runs = other Scan only refl runs
     by Stat is only runs = other Stat only refl runs
     by (Policy label) is only runs = other (Policy label) only refl runs
-    by (Tune n) is only runs = other (Tune n) only refl runs
-    by Tick is only runs = other Tick only refl runs
+    by (Tune n) is only runs = built (Tune n) is refl runs
+    by Tick is only runs = built Tick is refl runs

@@ -4,7 +4,7 @@ use Rattle.byte_ports.specs.Sink.{SinkMeaning, Takes, TakesFront}
 use Rattle.trace_text.specs.Texts.{text_of}
 use Rattle.page_device.specs.Meaning.{Meaning}
 use Rattle.trace_text.specs.declared.command.Command.{Command}
-use Rattle.trace_text.specs.declared.command.Command.TheVariants.{Write, Fill, Read, Discard, Flush}
+use Rattle.trace_text.specs.declared.command.Command.TheVariants.{Write, Fill, Read, Discard, Flush, Tune, Tick}
 use Rattle.trace_text.specs.declared.reply.Reply.{Reply}
 use Rattle.trace_text.specs.declared.reply.Reply.TheVariants as reply
 use Rattle.array_model.specs.Images.{Mode}
@@ -23,6 +23,8 @@ is_built (Fill block page) = true
 is_built (Read block) = true
 is_built (Discard block) = true
 is_built Flush = true
+is_built (Tune n) = true
+is_built Tick = true
 is_built command = false
 
 -- the rules of a session over a store
@@ -63,6 +65,8 @@ RunsCommand (Write block number) r old new d e = KnownDone (Write block number) 
 RunsCommand (Fill block page) r old new d e = KnownDone (Fill block page) r old new d e
 RunsCommand (Discard block) r old new d e = KnownDone (Discard block) r old new d e
 RunsCommand (Read block) r old new d e = KnownDone (Read block) r old new d e
+RunsCommand (Tune n) r old new d e = KnownDone (Tune n) r old new d e
+RunsCommand Tick r old new d e = KnownDone Tick r old new d e
 RunsCommand Flush r old new d e = KnownDone Flush r old new d e
 RunsCommand command r old new d e = NothingDone r old new d e
 

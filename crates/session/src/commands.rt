@@ -120,6 +120,8 @@ fn run_command<D: Device>(store: &mut Store, device: &mut D, command: &Command) 
         Command::Discard { block } => discard_block(store, device, *block),
         Command::Read { block } => read_block(store, device, *block),
         Command::Flush => flush_all(store, device),
+        Command::Tune { n: _ } => Reply::Done,
+        Command::Tick => Reply::Done,
         _ => Reply::Bad,
     }
 }

@@ -1,6 +1,11 @@
 use Rattle.std.proofs.Common.{subst, sym}
 use Rattle.trace_text.specs.declared.command.Command.{Command}
-use Rattle.session.specs.Answers.{RunsCommand}
+use Rattle.trace_text.specs.declared.command.Command.TheVariants.{Tune, Tick}
+use Rattle.trace_text.specs.declared.reply.Reply.TheVariants.{Done}
+use Rattle.array_model.specs.Array.{writes_nothing}
+use Rattle.dedup_writer.proofs.Quiet.{nothing}
+use Rattle.session.specs.Answers.{KnownDone, RunsCommand}
+use Rattle.session.proofs.Done.{tune_done, tick_done}
 use Rattle.session.proofs.commands.run_command.Goals as goal
 
 pub returns-in-Fill-clause-done : goal.returns-in-Fill-clause-done
@@ -10,3 +15,17 @@ returns-in-Fill-clause-done g c =
 pub returns-in-Write-clause-done : goal.returns-in-Write-clause-done
 returns-in-Write-clause-done g c =
     subst (λ (command : Command). RunsCommand command c.write_numbered.result c.args.store.now c.write_numbered.new.store (g.D.Device.seen c.args.device.now) (g.D.Device.seen c.write_numbered.new.device)) (sym c.in-Write.is) c.write_numbered.ensures.done
+
+pub returns-in-Tune-clause-done : goal.returns-in-Tune-clause-done
+returns-in-Tune-clause-done g c =
+    let store = c.args.store.now in
+    let d = g.D.Device.seen c.args.device.now in
+    let done : KnownDone (Tune c.in-Tune.n) Done store store d d = λ mode a unused sf. tune_done mode a unused store store d d c.in-Tune.n (nothing mode store d a writes_nothing sf) in
+    subst (λ (command : Command). RunsCommand command Done store store d d) (sym c.in-Tune.is) done
+
+pub returns-in-Tick-clause-done : goal.returns-in-Tick-clause-done
+returns-in-Tick-clause-done g c =
+    let store = c.args.store.now in
+    let d = g.D.Device.seen c.args.device.now in
+    let done : KnownDone Tick Done store store d d = λ mode a unused sf. tick_done mode a unused store store d d (nothing mode store d a writes_nothing sf) in
+    subst (λ (command : Command). RunsCommand command Done store store d d) (sym c.in-Tick.is) done
