@@ -1,7 +1,7 @@
 -- What the vectors of a graph say of its lists.
 use Rattle.std.proofs.Common.{◌≡◌, inl, inr, ℕ, suc, ◌+◌, ◌<◌, ◌≤◌, Bool, true, false, not, ◌&&◌, ◌||◌, List, [], ◌∷◌, ◌++◌, length, get_or, map, filter, refl, sym, ◌∙◌, ap, subst, arith, eqb, leb, eqb-true, eq-eqb, ne_eqb, Option, Some, None}
 use Rattle.std.specs.List.{list_any}
-use Rattle.std.proofs.lemmas.Bool.{and_from, and_parts, cases_Bool, cases_eq, cases_lt, cases_order, le-leb, leb-true, or_from, or_left, or_right, true≢false}
+use Rattle.std.proofs.lemmas.Bool.{and_from, and_parts, cases_Bool, cases_eq, cases_lt, cases_order, le-leb, leb-true, or_from, true≢false}
 use Rattle.dep_graph.specs.declared.pairs.Pair.{Pair}
 use Rattle.dep_graph.specs.Pages.{holds, IsFirst, IsLeast, IsRising}
 use Rattle.dep_graph.specs.Paths.{LivePath}
@@ -9,9 +9,9 @@ use Rattle.dep_graph.specs.Pairs.{has_pair, ends_at, from_page, not_from_page, A
 use Rattle.dep_graph.specs.Lists.{AreOnce, Edge, IsGraph, barrier_edge, edges_of, is_live, live_edge}
 use Rattle.dep_graph.specs.Waits.{Waits, waits_for}
 use Rattle.std.proofs.lemmas.List.Filters.{length-filter_both}
-use Rattle.dep_graph.specs.Kept.{IsKept}
+use Rattle.dep_graph.specs.Kept.{IsKept, hung_alone}
 use Rattle.dep_graph.proofs.PathLemmas.{acyclic_fewer, way_begins, way_ends}
-use Rattle.dep_graph.proofs.PageLemmas.{as_long, fewer, found, fewer_by_one, holds_filter}
+use Rattle.dep_graph.proofs.PageLemmas.{fewer, found, fewer_by_one, holds_filter}
 use Rattle.dep_graph.proofs.RisingLemmas.{any_where, rises_append, rises_at, rises_filter, rises_map}
 
 any_append : {X : Type 0} (q : X → Bool) (xs ys : List X) → list_any q (xs ++ ys) ≡ list_any q xs || list_any q ys
@@ -93,9 +93,9 @@ each_once live barred live_up barred_up = rises_append (λ (e f : Edge). e ≡ f
     (rises_map Precedes (λ (e f : Edge). e ≡ f → ⊥) barrier_edge (λ p q less same. not_same p q less (ap (λ (e : Edge). e.before) same) (ap (λ (e : Edge). e.after) same)) barred barred_up)
     (λ p q same. true≢false (ap (λ (e : Edge). is_live e.kind) same))
 
-pub graph_of : (dirty : Waits) (hung nodes : List ℕ) (live barred : List Pair) (n e : ℕ) → IsKept dirty hung nodes live barred
+pub graph_of : (dirty : Waits) (hung : List ℕ) (hung_only : ℕ) (live barred : List Pair) (n e : ℕ) → IsKept dirty hung hung_only live barred
     → IsGraph (record { dirty = dirty.pages; hung = hung; edges = edges_of live barred; spare_nodes = n; spare_edges = e })
-graph_of dirty hung nodes live barred n e k = record {
+graph_of dirty hung hung_only live barred n e k = record {
   dirty_once = k.dirty_rising;
   hung_once = k.hung_rising;
   edges_once = each_once live barred k.live_rising k.barred_rising;
@@ -104,12 +104,13 @@ graph_of dirty hung nodes live barred n e k = record {
   acyclic = acyclic_fewer (has_pair live) _ (λ a b h. sym (live_is live barred a b) ∙ h) k.acyclic;
 }
 
--- no more pages are dirty or hung than there are nodes
-pub dirty_within : (dirty : Waits) (hung nodes : List ℕ) (live barred : List Pair) → IsKept dirty hung nodes live barred → length dirty.pages ≤ length nodes
-dirty_within dirty hung nodes live barred k = fewer dirty.pages nodes k.dirty_rising k.nodes_rising (λ a h. k.node a ∙ or_left _ _ h)
-
-pub hung_within : (dirty : Waits) (hung nodes : List ℕ) (live barred : List Pair) → IsKept dirty hung nodes live barred → length hung ≤ length nodes
-hung_within dirty hung nodes live barred k = fewer hung nodes k.hung_rising k.nodes_rising (λ a h. k.node a ∙ or_right _ _ h)
+-- no more pages are hung than there are nodes
+pub hung_within : (dirty : Waits) (hung : List ℕ) (hung_only : ℕ) (live barred : List Pair) → IsKept dirty hung hung_only live barred → length hung ≤ length dirty.pages + hung_only
+hung_within dirty hung hung_only live barred k =
+    let both = length-filter_both (holds dirty.pages) (λ a. not (holds dirty.pages a)) (λ a. refl) hung in
+    let marked = fewer (filter (holds dirty.pages) hung) dirty.pages (rises_filter (λ a b. a < b) (holds dirty.pages) hung k.hung_rising) k.dirty_rising
+    (λ a h. (and_parts _ _ (sym (holds_filter (holds dirty.pages) hung a) ∙ h)).1) in
+    omega (arith, k.alone)
 
 -- where a pair ends, the number of those that end there is above 0
 pub has_ends : (ps : List Pair) (a b : ℕ) → has_pair ps a b ≡ true → 0 < ends_at ps b
@@ -171,15 +172,15 @@ ends_parts (p ∷ ps) page b = let rest = ends_parts ps page b in elim (cases_Bo
 ]
 
 -- a page to which no edge leads has the number 0
-pub none_leads : (dirty : Waits) (hung nodes : List ℕ) (live barred : List Pair) (page : ℕ) → IsKept dirty hung nodes live barred → list_any (λ (e : Edge). eqb e.after page) (edges_of live barred) ≡ false → waits_for dirty page ≡ 0
-none_leads dirty hung nodes live barred page k off = elim (cases_eq (waits_for dirty page) 0) [
+pub none_leads : (dirty : Waits) (hung : List ℕ) (hung_only : ℕ) (live barred : List Pair) (page : ℕ) → IsKept dirty hung hung_only live barred → list_any (λ (e : Edge). eqb e.after page) (edges_of live barred) ≡ false → waits_for dirty page ≡ 0
+none_leads dirty hung hung_only live barred page k off = elim (cases_eq (waits_for dirty page) 0) [
   | inl e ↦ e
   | inr ne ↦ absurd (let is : not (eqb (waits_for dirty page) 0) ≡ false = ap (λ n. not (eqb n 0)) (k.counts page) ∙ sym (waits_is live barred page) ∙ off in let no' = ne_eqb _ _ ne in let bad : true ≡ false = sym (ap not no') ∙ is in cc)
 ]
 
-pub ready_is : (dirty : Waits) (hung nodes : List ℕ) (live barred : List Pair) (page : ℕ) → IsKept dirty hung nodes live barred
+pub ready_is : (dirty : Waits) (hung : List ℕ) (hung_only : ℕ) (live barred : List Pair) (page : ℕ) → IsKept dirty hung hung_only live barred
     → (holds dirty.pages page && eqb (waits_for dirty page) 0) ≡ (holds dirty.pages page && not (list_any (λ (e : Edge). eqb e.after page) (edges_of live barred)))
-ready_is dirty hung nodes live barred page k = rw (waits_is live barred page, k.counts page) (twice (holds dirty.pages page) (eqb (ends_at live page + ends_at barred page) 0))
+ready_is dirty hung hung_only live barred page k = rw (waits_is live barred page, k.counts page) (twice (holds dirty.pages page) (eqb (ends_at live page + ends_at barred page) 0))
   where
     twice : (x y : Bool) → (x && y) ≡ (x && not (not y))
     twice x y = grind arith
@@ -200,34 +201,30 @@ pub least_same : (P Q : ℕ → Type 0) (from : ℕ) (r : Option ℕ) → ((a : 
 least_same P Q from (Some page) to back h = (to page h.0, h.1, λ a q. h.2 a (back a q))
 least_same P Q from None to back h = λ a q. h a (back a q)
 
+-- the hung pages that are not dirty
+pub alone_is : (dirty hung : List ℕ) (a : ℕ) → holds (hung_alone dirty hung) a ≡ holds hung a && not (holds dirty a)
+alone_is dirty hung a = holds_filter (λ p. not (holds dirty p)) hung a
+
+pub alone_rises : (dirty hung : List ℕ) → IsRising hung → IsRising (hung_alone dirty hung)
+alone_rises dirty hung up = rises_filter (λ a b. a < b) (λ p. not (holds dirty p)) hung up
+
+-- where there is one, their number is above 0
+pub some_alone : (dirty : Waits) (hung : List ℕ) (hung_only : ℕ) (live barred : List Pair) (page : ℕ) → IsKept dirty hung hung_only live barred → holds dirty.pages page ≡ false → holds hung page ≡ true → 0 < hung_only
+some_alone dirty hung hung_only live barred page k off on =
+    let w = any_where (λ p. eqb p page) (hung_alone dirty.pages hung) 0 (alone_is dirty.pages hung page ∙ rw (off, on)) in
+    omega (arith, k.alone, w.1)
+
 -- room for one dirty page more, where it is not dirty
-pub dirty_room : (dirty : Waits) (hung nodes : List ℕ) (live barred : List Pair) (page spare : ℕ) → IsKept dirty hung nodes live barred → holds dirty.pages page ≡ false
-    → ((holds dirty.pages page || holds hung page) ≡ false → 0 < spare) → length dirty.pages < length nodes + spare
-dirty_room dirty hung nodes live barred page spare k off room = elim (cases_Bool (holds hung page)) [
-  | inl on ↦
-      let lt : length dirty.pages < length nodes = fewer_by_one dirty.pages nodes page k.dirty_rising k.nodes_rising (λ a h. k.node a ∙ or_left _ _ h) (k.node page ∙ or_right _ _ on) off in
-      omega arith
-  | inr none' ↦
-      let some : 0 < spare = room (or_from _ _ off none') in
-      let le = dirty_within dirty hung nodes live barred k in
-      omega arith
+pub dirty_room : (dirty : Waits) (hung : List ℕ) (hung_only : ℕ) (live barred : List Pair) (page spare : ℕ) → IsKept dirty hung hung_only live barred → holds dirty.pages page ≡ false
+    → ((holds dirty.pages page || holds hung page) ≡ false → 0 < spare) → 0 < hung_only + spare
+dirty_room dirty hung hung_only live barred page spare k off room = elim (cases_Bool (holds hung page)) [
+  | inl on ↦ let some = some_alone dirty hung hung_only live barred page k off on in omega arith
+  | inr none' ↦ let some : 0 < spare = room (or_from _ _ off none') in omega arith
 ]
-
-pub there_already : (x : Bool) (f : ℕ → Bool) (a page : ℕ) → f page ≡ true → ((x || eqb a page) || f a) ≡ (x || f a)
-there_already x f a page on = elim (cases_eq a page) [
-  | inl e ↦ rw (e, on) (ends x (eqb page page))
-  | inr ne ↦ rw (ne_eqb a page ne) (nothing x (f a))
-]
-  where
-    ends : (x y : Bool) → ((x || y) || true) ≡ (x || true)
-    ends x y = grind arith
-
-    nothing : (x y : Bool) → ((x || false) || y) ≡ (x || y)
-    nothing x y = grind arith
 
 -- no Live edge leads from a page that is not dirty
-pub none_from : (dirty : Waits) (hung nodes : List ℕ) (live barred : List Pair) (page a b : ℕ) → IsKept dirty hung nodes live barred → holds dirty.pages page ≡ false → has_pair live a b ≡ has_pair live a b && not (eqb a page)
-none_from dirty hung nodes live barred page a b k off = elim (cases_eq a page) [
+pub none_from : (dirty : Waits) (hung : List ℕ) (hung_only : ℕ) (live barred : List Pair) (page a b : ℕ) → IsKept dirty hung hung_only live barred → holds dirty.pages page ≡ false → has_pair live a b ≡ has_pair live a b && not (eqb a page)
+none_from dirty hung hung_only live barred page a b k off = elim (cases_eq a page) [
   | inr ne ↦ rw (ne_eqb a page ne) (keeps (has_pair live a b))
   | inl e ↦ elim (cases_Bool (has_pair live a b)) [
     | inr none' ↦ rw none'
@@ -271,33 +268,20 @@ waiters_are live barred page =
     not_live : (x : Bool) → (x && false) ≡ false
     not_live x = grind arith
 
--- each node is dirty, or hung and not dirty
-pub nodes_are : (dirty : Waits) (hung nodes : List ℕ) (live barred : List Pair) → IsKept dirty hung nodes live barred → length nodes ≡ length dirty.pages + length (filter (λ a. not (holds dirty.pages a)) hung)
-nodes_are dirty hung nodes live barred k =
-    let both = length-filter_both (holds dirty.pages) (λ a. not (holds dirty.pages a)) (λ a. refl) nodes in
-    let marked = as_long (filter (holds dirty.pages) nodes) dirty.pages (rises_filter (λ a b. a < b) (holds dirty.pages) nodes k.nodes_rising) k.dirty_rising
-    (λ a. holds_filter (holds dirty.pages) nodes a ∙ rw (k.node a) (only (holds dirty.pages a) (holds hung a))) in
-    let others = as_long (filter (λ a. not (holds dirty.pages a)) nodes) (filter (λ a. not (holds dirty.pages a)) hung) (rises_filter (λ a b. a < b) (λ a. not (holds dirty.pages a)) nodes k.nodes_rising)
-    (rises_filter (λ a b. a < b) (λ a. not (holds dirty.pages a)) hung k.hung_rising)
-    (λ a. holds_filter (λ a. not (holds dirty.pages a)) nodes a ∙ rw (k.node a) (rest (holds dirty.pages a) (holds hung a)) ∙ sym (holds_filter (λ a. not (holds dirty.pages a)) hung a)) in
-    omega arith
-  where
-    only : (x y : Bool) → ((x || y) && x) ≡ x
-    only x y = grind arith
-
-    rest : (x y : Bool) → ((x || y) && not x) ≡ (y && not x)
-    rest x y = grind arith
-
 -- room for one hung page more, where a dirty page is not hung
-pub hung_room : (dirty : Waits) (hung nodes : List ℕ) (live barred : List Pair) (page : ℕ) → IsKept dirty hung nodes live barred → holds dirty.pages page ≡ true → holds hung page ≡ false → length hung < length nodes
-hung_room dirty hung nodes live barred page k on off = fewer_by_one hung nodes page k.hung_rising k.nodes_rising (λ a h. k.node a ∙ or_right _ _ h) (k.node page ∙ or_left _ _ on) off
+pub hung_room : (dirty : Waits) (hung : List ℕ) (hung_only : ℕ) (live barred : List Pair) (page : ℕ) → IsKept dirty hung hung_only live barred → holds dirty.pages page ≡ true → holds hung page ≡ false → length hung < length dirty.pages + hung_only
+hung_room dirty hung hung_only live barred page k on off =
+    let both = length-filter_both (holds dirty.pages) (λ a. not (holds dirty.pages a)) (λ a. refl) hung in
+    let marked = fewer_by_one (filter (holds dirty.pages) hung) dirty.pages page (rises_filter (λ a b. a < b) (holds dirty.pages) hung k.hung_rising) k.dirty_rising
+    (λ a h. (and_parts _ _ (sym (holds_filter (holds dirty.pages) hung a) ∙ h)).1) on (holds_filter (holds dirty.pages) hung page ∙ rw off) in
+    omega (arith, k.alone)
 
 -- no way leads to a page that is not dirty, and none from it
-pub no_way_to : (dirty : Waits) (hung nodes : List ℕ) (live barred : List Pair) (a b : ℕ) → IsKept dirty hung nodes live barred → holds dirty.pages b ≡ false → LivePath (has_pair live) a b → ⊥
-no_way_to dirty hung nodes live barred a b k off way = let q = way_ends way in true≢false (sym (k.live_ends q.0 b q.1).1 ∙ off)
+pub no_way_to : (dirty : Waits) (hung : List ℕ) (hung_only : ℕ) (live barred : List Pair) (a b : ℕ) → IsKept dirty hung hung_only live barred → holds dirty.pages b ≡ false → LivePath (has_pair live) a b → ⊥
+no_way_to dirty hung hung_only live barred a b k off way = let q = way_ends way in true≢false (sym (k.live_ends q.0 b q.1).1 ∙ off)
 
-pub no_way_from : (dirty : Waits) (hung nodes : List ℕ) (live barred : List Pair) (a b : ℕ) → IsKept dirty hung nodes live barred → holds dirty.pages a ≡ false → LivePath (has_pair live) a b → ⊥
-no_way_from dirty hung nodes live barred a b k off way = let q = way_begins way in true≢false (sym (k.live_ends a q.0 q.1).0 ∙ off)
+pub no_way_from : (dirty : Waits) (hung : List ℕ) (hung_only : ℕ) (live barred : List Pair) (a b : ℕ) → IsKept dirty hung hung_only live barred → holds dirty.pages a ≡ false → LivePath (has_pair live) a b → ⊥
+no_way_from dirty hung hung_only live barred a b k off way = let q = way_begins way in true≢false (sym (k.live_ends a q.0 q.1).0 ∙ off)
 
 -- the first of the ready pages from a number on is the least
 pub least_of_first : (P : ℕ → Type 0) (ready : ℕ → Bool) (pages : List ℕ) (from : ℕ) (r : Option ℕ) → IsRising pages → ((a : ℕ) → holds pages a ≡ ready a && leb from a) → IsFirst P pages r

@@ -1,11 +1,11 @@
 -- Look-ups in lists of page numbers.
 use Rattle.std.proofs.Common.{◌≡◌, inl, inr, ℕ, suc, ◌+◌, ◌-◌, ◌<◌, ◌≤◌, Bool, true, false, not, ◌&&◌, ◌||◌, List, [], ◌∷◌, ◌++◌, length, take, drop, filter, get_or, refl, sym, ◌∙◌, ap, subst, arith, eqb, leb, ltb, eqb-true, eq-eqb, ne_eqb}
 use Rattle.std.proofs.lemmas.Bool.{cases_Bool, cases_eq, cases_lt, or_parts, or_right, le-leb, lt-leb, lt-ltb, ltb-true, ltb-false, true≢false}
-use Rattle.std.proofs.lemmas.List.{get_or-drop, length-drop}
+use Rattle.std.proofs.lemmas.List.{get_or-drop, length-append, length-drop, length-take-le}
 use Rattle.std.specs.List.Sorted.{IsPartitionedBy, IsPartitionPoint}
 use Rattle.dep_graph.specs.Rising.{Leads, Rises}
 use Rattle.dep_graph.specs.Pages.{holds, IsAt, IsPlace, IsRising}
-use Rattle.dep_graph.proofs.RisingLemmas.{partitioned, leads_at, rises_at, rises_insert, absent_after, any_insert, any_remove, any_at, any_none, any_where}
+use Rattle.dep_graph.proofs.RisingLemmas.{partitioned, leads_at, rises_at, rises_insert, rises_remove, absent_after, any_insert, any_remove, any_at, any_none, any_where}
 
 pub flip : (a b : ℕ) → eqb a b ≡ eqb b a
 flip a b = elim (cases_eq a b) [
@@ -191,6 +191,29 @@ as_long ps qs up on same =
     let le = fewer ps qs up on (λ a h. sym (same a) ∙ h) in
     let ge = fewer qs ps on up (λ a h. same a ∙ h) in
     omega arith
+
+-- a list of one page less is shorter by 1
+pub shorter_by_one : (ps qs : List ℕ) (x : ℕ) → IsRising ps → IsRising qs → ((a : ℕ) → holds qs a ≡ holds ps a && not (eqb a x)) → holds ps x ≡ true → length ps ≡ length qs + 1
+shorter_by_one ps qs x up on less there =
+    let w = any_where (λ p. eqb p x) ps 0 there in
+    let rest = as_long (take w.0 ps ++ drop (suc w.0) ps) qs (rises_remove (λ a b. a < b) ps w.0 up) on (λ a. holds_remove ps w.0 x a up w.1 (eqb-true _ _ w.2) ∙ sym (less a)) in
+    let len = length-append (take w.0 ps) (drop (suc w.0) ps) in
+    let front = length-take-le w.0 ps (omega (arith, w.1)) in
+    let back = length-drop (suc w.0) ps in
+    omega (arith, w.1)
+
+-- and one of one page more is longer by 1
+pub longer_by_one : (ps qs : List ℕ) (x : ℕ) → IsRising ps → IsRising qs → ((a : ℕ) → holds qs a ≡ holds ps a || eqb a x) → holds ps x ≡ false → length qs ≡ length ps + 1
+longer_by_one ps qs x up on more off = shorter_by_one qs ps x on up (λ a. rw (more a) (without a)) (more x ∙ or_right _ _ (eq-eqb x x refl))
+  where
+    stays : (y : Bool) → y ≡ ((y || false) && not false)
+    stays y = grind arith
+
+    without : (a : ℕ) → holds ps a ≡ ((holds ps a || eqb a x) && not (eqb a x))
+    without a = elim (cases_eq a x) [
+      | inl e ↦ rw (e, eq-eqb x x refl, off)
+      | inr ne ↦ rw (ne_eqb a x ne) (stays (holds ps a))
+    ]
 
 -- the pages from a place on are those that are not below its page
 pub holds_drop : (ps : List ℕ) (from k a : ℕ) → IsPlace ps from k → holds (drop k ps) a ≡ holds ps a && leb from a

@@ -1,14 +1,14 @@
 // Marks and edges.
 ghost use Rattle.std.specs.Prelude.{◌≡◌, ℕ, ◌+◌, ◌-◌, ◌<◌, ◌≤◌, ◌^◌, ◌||◌, ◌&&◌, ◌↔◌, not, eqb, true, false, length, vec_capacity, [], max, IfOk, OnOk, OnErr, if◌then◌else◌};
 ghost use Rattle.dep_graph.specs.Lists.{dirty_in, hung_in, live_in, barred_in, edge_in, is_live, is_node, is_ready, node_count, waiter_count, waits_in, IsGraph};
-ghost use Rattle.dep_graph.specs.Pages.{holds, IsLeast, IsRising};
+ghost use Rattle.dep_graph.specs.Pages.{IsLeast};
 ghost use Rattle.dep_graph.specs.Marks.{IsGreatestLevel, marks_of};
 ghost use Rattle.dep_graph.specs.Paths.{Closes};
 
 use crate::levels::greatest_level;
 use crate::moves::{bar_each, lower_each};
 use crate::pairs::{self, Pair};
-use crate::room::{copy_into, room_for};
+use crate::room::room_for;
 use crate::search::{Search, first_reaching, reaches};
 use crate::waiting::Waiting;
 use crate::{Kind, NoMemory, pages};
@@ -32,7 +32,6 @@ fn in_all(there: usize, spare: u32) -> Result<u32, NoMemory>
 fn room_for_nodes(
     dirty: &mut Waiting,
     hung: &mut Vec<u32>,
-    nodes: &mut Vec<u32>,
     search: &mut Search,
     all: u32,
 ) -> Result<(), NoMemory>
@@ -42,21 +41,16 @@ fn room_for_nodes(
     ensures pages { dirty.new.pages ≡ dirty.old.pages }
     ensures counts { dirty.new.counts ≡ dirty.old.counts }
     ensures hung { hung.new.items ≡ hung.old.items }
-    ensures nodes { nodes.new.items ≡ nodes.old.items }
     ensures reached { search.new.reached ≡ [] }
     ensures few { search.new.room < 2 ^ 31 }
-    ensures ok { OnOk result ((all ≤ dirty.new.room) × (all ≤ vec_capacity hung.new) × (all ≤ vec_capacity nodes.new) × (all ≤ search.new.room)) }
-    ensures room { (dirty.old.room ≤ dirty.new.room) × (vec_capacity hung.old ≤ vec_capacity hung.new) × (vec_capacity nodes.old ≤ vec_capacity nodes.new) × (search.old.room ≤ search.new.room) }
+    ensures ok { OnOk result ((all ≤ dirty.new.room) × (all ≤ vec_capacity hung.new) × (all ≤ search.new.room)) }
+    ensures room { (dirty.old.room ≤ dirty.new.room) × (vec_capacity hung.old ≤ vec_capacity hung.new) × (search.old.room ≤ search.new.room) }
 {
     match dirty.reserve(all) {
         Ok(()) => {}
         Err(_) => return Err(NoMemory),
     }
     match room_for(hung, all as usize) {
-        Ok(()) => {}
-        Err(_) => return Err(NoMemory),
-    }
-    match room_for(nodes, all as usize) {
         Ok(()) => {}
         Err(_) => return Err(NoMemory),
     }
@@ -98,21 +92,6 @@ fn room_for_edges(live: &mut Vec<Pair>, barred: &mut Vec<Pair>, all: u32) -> Res
     }
 }
 
-// A page that lost its dirty mark stays a node where it is hung.
-fn clean(nodes: &mut Vec<u32>, hung: &[u32], page: u32)
-    requires rising { IsRising nodes.old.items }
-    requires hung_rising { IsRising hung.now }
-    requires present { holds nodes.old.items page ≡ true }
-    ensures nodes { (a : ℕ) → holds nodes.new.items a ≡ (holds nodes.old.items a && (not (eqb a page) || holds hung.now a)) }
-    ensures rising { IsRising nodes.new.items }
-    ensures len { length nodes.new.items ≤ length nodes.old.items }
-    ensures room { vec_capacity nodes.new ≡ vec_capacity nodes.old }
-{
-    if !pages::contains(hung, page) {
-        pages::remove(nodes, page);
-    }
-}
-
 /// The dirty and hung pages, and which waits for which.
 ///
 /// Contracts see it as plain lists: dirty pages, hung pages, edges, and the numbers of spare nodes and spare edges.
@@ -120,7 +99,8 @@ fn clean(nodes: &mut Vec<u32>, hung: &[u32], page: u32)
 pub struct Graph {
     dirty: Waiting,
     hung: Vec<u32>,
-    nodes: Vec<u32>,
+    // How many hung pages are not dirty.
+    hung_only: u32,
     live: Vec<Pair>,
     barred: Vec<Pair>,
     spare_nodes: u32,
@@ -139,7 +119,7 @@ impl Model for Graph {
 
     ghost view = { λ g. record { dirty = g.dirty.pages; hung = g.hung.items; edges = edges_of g.live.items g.barred.items; spare_nodes = g.spare_nodes; spare_edges = g.spare_edges } };
 
-    ghost invariant = { λ g. IsKept g.dirty g.hung.items g.nodes.items g.live.items g.barred.items × HasRoom (length g.nodes.items + g.spare_nodes) (length g.live.items + length g.barred.items + g.spare_edges) g.dirty.room (vec_capacity g.hung) (vec_capacity g.nodes) (vec_capacity g.live) (vec_capacity g.barred) g.search.room (vec_capacity g.left) (vec_capacity g.level) × (g.search.reached ≡ []) };
+    ghost invariant = { λ g. IsKept g.dirty g.hung.items g.hung_only g.live.items g.barred.items × HasRoom (length g.dirty.pages + g.hung_only + g.spare_nodes) (length g.live.items + length g.barred.items + g.spare_edges) g.dirty.room (vec_capacity g.hung) (vec_capacity g.live) (vec_capacity g.barred) g.search.room (vec_capacity g.left) (vec_capacity g.level) × (g.search.reached ≡ []) };
 }
 
 impl Graph {
@@ -151,7 +131,7 @@ impl Graph {
         Graph {
             dirty: Waiting::new(alloc),
             hung: Vec::new(alloc),
-            nodes: Vec::new(alloc),
+            hung_only: 0,
             live: Vec::new(alloc),
             barred: Vec::new(alloc),
             spare_nodes: 0,
@@ -173,18 +153,12 @@ impl Graph {
     {
         let spare_nodes = self.spare_nodes.max(nodes);
         let spare_edges = self.spare_edges.max(edges);
-        let all_nodes = in_all(self.nodes.len(), spare_nodes)?;
+        let all_nodes = in_all(self.nodes() as usize, spare_nodes)?;
         if all_nodes >= NODE_LIMIT {
             return Err(NoMemory);
         }
         let all_edges = in_all(self.live.len() + self.barred.len(), spare_edges)?;
-        room_for_nodes(
-            &mut self.dirty,
-            &mut self.hung,
-            &mut self.nodes,
-            &mut self.search,
-            all_nodes,
-        )?;
+        room_for_nodes(&mut self.dirty, &mut self.hung, &mut self.search, all_nodes)?;
         room_for_levels(&mut self.left, &mut self.level, all_nodes)?;
         room_for_edges(&mut self.live, &mut self.barred, all_edges)?;
         self.spare_nodes = spare_nodes;
@@ -273,8 +247,9 @@ impl Graph {
             return;
         }
         self.dirty.enter(page);
-        if !pages::contains(&self.hung, page) {
-            pages::insert(&mut self.nodes, page);
+        if pages::contains(&self.hung, page) {
+            self.hung_only -= 1;
+        } else {
             self.spare_nodes -= 1;
         }
     }
@@ -357,6 +332,7 @@ impl Graph {
         ensures graph { IsGraph self.new }
     {
         self.dirty.leave(page);
+        self.hung_only += 1;
         bar_each(
             pairs::out_of(&self.live, page),
             &mut self.barred,
@@ -367,7 +343,7 @@ impl Graph {
     }
 
     /// A barrier was made: all hung marks and all Barrier edges go, and each page without a mark is no node any more.
-    /// It costs the Barrier edges, each with a look-up, and a copy of the numbers of the dirty pages.
+    /// It costs the hung pages and their Barrier edges, each edge with a look-up, beside moving small elements of a sorted vector.
     pub fn barrier(&mut self)
         ensures dirty { self.new.dirty ≡ self.old.dirty }
         ensures hung { self.new.hung ≡ [] }
@@ -380,7 +356,7 @@ impl Graph {
         lower_each(&self.barred, &mut self.dirty);
         self.barred.clear();
         self.hung.clear();
-        copy_into(&mut self.nodes, self.dirty.pages());
+        self.hung_only = 0;
     }
 
     /// Takes the dirty mark from a page to which no edge leads, and its outgoing Live edges. A page that is also hung stays a
@@ -401,7 +377,7 @@ impl Graph {
         self.dirty.leave(page);
         lower_each(pairs::out_of(&self.live, page), &mut self.dirty);
         pairs::remove_out_of(&mut self.live, page);
-        clean(&mut self.nodes, &self.hung, page);
+        self.hung_only += u32::from(pages::contains(&self.hung, page));
     }
 
     /// The least ready page at or above a number. Logarithmic.
@@ -436,7 +412,7 @@ impl Graph {
     pub fn nodes(&self) -> u32
         ensures { result ≡ node_count self.now }
     {
-        self.nodes.len() as u32
+        self.dirty() + self.hung_only
     }
 
     /// The greatest level of a node, or 0 where there is none: as many barriers as a flush needs. A node to which no edge leads

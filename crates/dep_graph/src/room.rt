@@ -1,5 +1,5 @@
 // Vectors with room.
-ghost use Rattle.std.specs.Prelude.{◌≡◌, ◌+◌, ◌<◌, ◌≤◌, ◌++◌, length, take, drop, vec_len, vec_capacity, insert, OnOk};
+ghost use Rattle.std.specs.Prelude.{◌≡◌, ◌+◌, ◌<◌, ◌≤◌, ◌++◌, take, drop, vec_len, vec_capacity, insert, OnOk};
 
 use std::alloc::AllocError;
 
@@ -35,14 +35,4 @@ pub fn cut_out<T: Copy>(items: &mut Vec<T>, first: usize, end: usize)
     ensures room { vec_capacity items.new ≡ vec_capacity items.old }
 {
     let _ = items.drain(first..end);
-}
-
-// Puts these items in place of the others, where there is room.
-pub fn copy_into<T: Copy>(items: &mut Vec<T>, from: &[T])
-    requires { length from.now ≤ vec_capacity items.old }
-    ensures items { items.new.items ≡ from.now }
-    ensures room { vec_capacity items.old ≤ vec_capacity items.new }
-{
-    items.clear();
-    let _ = items.extend_from_slice(from);
 }

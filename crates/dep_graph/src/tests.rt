@@ -365,6 +365,8 @@ fn dirty_and_hung(rt: HostRuntime) -> Result<(), NoMemory> {
             Step::Barrier(0, 4),
             Step::Write(0),
             Step::Enter(0),
+            Step::Drop(0),
+            Step::Enter(0),
             Step::Live(0, 4),
             Step::Fix,
             Step::Drop(2),

@@ -1,4 +1,4 @@
-use Rattle.std.proofs.Common.{◌≡◌, ap, subst, sym, ◌∙◌, true, ◌||◌, ◌&&◌, ◌-◌, ℕ, List, eqb, arith}
+use Rattle.std.proofs.Common.{◌≡◌, ap, subst, sym, ◌∙◌, true, ◌||◌, ◌&&◌, ◌-◌, ℕ, List, length, eqb, arith}
 use Rattle.std.proofs.lemmas.Bool.{cond-true, cond-false}
 use Rattle.dep_graph.specs.declared.pairs.Pair.{Pair}
 use Rattle.dep_graph.specs.Pairs.{has_pair}
@@ -22,7 +22,7 @@ pub returns-then-contains-clause-spare_edges : goal.returns-then-contains-clause
 returns-then-contains-clause-spare_edges c = sym (cond-true _ _ _ (stood c))
 
 pub returns-then-contains-clause-graph : goal.returns-then-contains-clause-graph
-returns-then-contains-clause-graph c = subst IsGraph c.self.view_is (graph_of c.self.inside.dirty c.self.inside.hung.items c.self.inside.nodes.items c.self.inside.live.items c.self.inside.barred.items _ _ c.self.invariant.0)
+returns-then-contains-clause-graph c = subst IsGraph c.self.view_is (graph_of c.self.inside.dirty c.self.inside.hung.items c.self.inside.hung_only c.self.inside.live.items c.self.inside.barred.items _ _ c.self.invariant.0)
 
 pub raise-requires-clause-few : goal.raise-requires-clause-few
 raise-requires-clause-few c =
@@ -37,19 +37,19 @@ invariant_of-self c =
     let spare = ap (λ (g : GraphLists). g.spare_edges) c.self.view_is in
     let some = c.requires.spare in
     let len = c.insert.ensures.len in
+    let same = ap length c.raise.ensures.pages in
     let fits = c.self.invariant.1 in (
-      kept_barrier c.self.inside.dirty c.self.inside.hung.items c.self.inside.nodes.items c.self.inside.live.items c.self.inside.barred.items c.self.invariant.0 c.args.pair c.raise.new.self c.raise.ensures.pages (ap (λ (g : GraphLists). dirty_in g c.args.pair.after) c.self.view_is ∙ c.requires.after) c.raise.ensures.counts
+      kept_barrier c.self.inside.dirty c.self.inside.hung.items c.self.inside.hung_only c.self.inside.live.items c.self.inside.barred.items c.self.invariant.0 c.args.pair c.raise.new.self c.raise.ensures.pages (ap (λ (g : GraphLists). dirty_in g c.args.pair.after) c.self.view_is ∙ c.requires.after) c.raise.ensures.counts
           c.insert.new.pairs.items c.insert.ensures.rising c.insert.ensures.pairs c.insert.ensures.ends (ap (λ (g : GraphLists). hung_in g c.args.pair.before) c.self.view_is ∙ c.requires.before),
       record {
         dirty = omega (arith, c.raise.ensures.room, fits.dirty);
-        hung = fits.hung;
-        nodes_fit = fits.nodes_fit;
+        hung = omega (arith, fits.hung);
         live = omega (arith, fits.live);
         barred = omega (arith, fits.barred);
-        search_fits = fits.search_fits;
-        left_fits = fits.left_fits;
-        level_fits = fits.level_fits;
-        few_nodes = fits.few_nodes;
+        search_fits = omega (arith, fits.search_fits);
+        left_fits = omega (arith, fits.left_fits);
+        level_fits = omega (arith, fits.level_fits);
+        few_nodes = omega (arith, fits.few_nodes);
         few_places = fits.few_places;
         few_edges = omega (arith, fits.few_edges);
       },
@@ -71,4 +71,4 @@ returns-clause-spare_edges c =
     ap (λ (g : GraphLists). g.spare_edges - 1) c.self.view_is ∙ sym (cond-false _ _ _ off)
 
 pub returns-clause-graph : goal.returns-clause-graph
-returns-clause-graph c = graph_of c.raise.new.self c.self.inside.hung.items c.self.inside.nodes.items c.self.inside.live.items c.insert.new.pairs.items _ _ (invariant_of-self c).0
+returns-clause-graph c = graph_of c.raise.new.self c.self.inside.hung.items c.self.inside.hung_only c.self.inside.live.items c.insert.new.pairs.items _ _ (invariant_of-self c).0

@@ -2,7 +2,7 @@ use Rattle.std.proofs.Common.{ap, sym, ◌∙◌, List, length, arith}
 use Rattle.dep_graph.specs.declared.pairs.Pair.{Pair}
 use Rattle.dep_graph.specs.Pairs.{ends_at, has_pair}
 use Rattle.dep_graph.specs.Lists.{GraphLists, live_in}
-use Rattle.dep_graph.proofs.GraphLemmas.{graph_of, dirty_within, live_is, barred_is}
+use Rattle.dep_graph.proofs.GraphLemmas.{graph_of, live_is, barred_is}
 use Rattle.dep_graph.proofs.KeptLemmas.{kept_fixed}
 use Rattle.dep_graph.proofs.graph.Graph.barrier.Goals as goal
 
@@ -10,27 +10,18 @@ pub lower_each-requires-clause-some : goal.lower_each-requires-clause-some
 lower_each-requires-clause-some c = λ b. let all = c.self.invariant.0.counts b in let e = ap (λ (l : List Pair). ends_at l b) c.deref.ensures.value in omega arith
 
 pub lower_each-requires-clause-room : goal.lower_each-requires-clause-room
-lower_each-requires-clause-room c = let within = dirty_within c.self.inside.dirty c.self.inside.hung.items c.self.inside.nodes.items c.self.inside.live.items c.self.inside.barred.items c.self.invariant.0 in omega (arith, c.self.invariant.1.dirty)
-
-pub copy_into-requires : goal.copy_into-requires
-copy_into-requires c =
-    let within = dirty_within c.self.inside.dirty c.self.inside.hung.items c.self.inside.nodes.items c.self.inside.live.items c.self.inside.barred.items c.self.invariant.0 in
-    let pages = ap length (c.pages.ensures.pages ∙ c.lower_each.ensures.pages) in
-    omega (arith, c.self.invariant.1.nodes_fit)
+lower_each-requires-clause-room c = omega (arith, c.self.invariant.1.dirty)
 
 pub invariant_of-self : goal.invariant_of-self
 invariant_of-self c =
-    let pages = c.copy_into.ensures.items ∙ c.pages.ensures.pages ∙ c.lower_each.ensures.pages in
-    let within = dirty_within c.self.inside.dirty c.self.inside.hung.items c.self.inside.nodes.items c.self.inside.live.items c.self.inside.barred.items c.self.invariant.0 in
+    let len = ap length c.lower_each.ensures.pages in
     let fits = c.self.invariant.1 in
-    let len = ap length pages in
     let none = ap length c.clear.ensures.items in
-    let kept = kept_fixed c.self.inside.dirty c.self.inside.hung.items c.self.inside.nodes.items c.self.inside.live.items c.self.inside.barred.items c.self.invariant.0 c.lower_each.new.dirty c.lower_each.ensures.pages (λ b. let e = ap (λ (l : List Pair). ends_at l b) c.deref.ensures.value in let is = c.lower_each.ensures.counts b in omega arith) in (
-      rw (pages, c.clear.ensures.items, c.clear-2.ensures.items) kept,
+    let kept = kept_fixed c.self.inside.dirty c.self.inside.hung.items c.self.inside.hung_only c.self.inside.live.items c.self.inside.barred.items c.self.invariant.0 c.lower_each.new.dirty c.lower_each.ensures.pages (λ b. let e = ap (λ (l : List Pair). ends_at l b) c.deref.ensures.value in let is = c.lower_each.ensures.counts b in omega arith) in (
+      rw (c.clear.ensures.items, c.clear-2.ensures.items) kept,
       record {
         dirty = omega (arith, c.lower_each.ensures.room, fits.dirty);
         hung = omega (arith, c.clear-2.ensures.capacity, fits.hung);
-        nodes_fit = omega (arith, c.copy_into.ensures.room, fits.nodes_fit);
         live = omega (arith, fits.live);
         barred = omega (arith, c.clear.ensures.capacity, fits.barred);
         search_fits = omega (arith, fits.search_fits);
@@ -50,4 +41,4 @@ pub returns-clause-barred : goal.returns-clause-barred
 returns-clause-barred c = λ a b. barred_is c.self.inside.live.items c.clear.new.self.items a b ∙ ap (λ (l : List Pair). has_pair l a b) c.clear.ensures.items
 
 pub returns-clause-graph : goal.returns-clause-graph
-returns-clause-graph c = graph_of c.lower_each.new.dirty c.clear-2.new.self.items c.copy_into.new.items.items c.self.inside.live.items c.clear.new.self.items _ _ (invariant_of-self c).0
+returns-clause-graph c = graph_of c.lower_each.new.dirty c.clear-2.new.self.items 0 c.self.inside.live.items c.clear.new.self.items _ _ (invariant_of-self c).0

@@ -3,7 +3,7 @@ use Rattle.std.proofs.lemmas.Bool.{true≢false}
 use Rattle.dep_graph.specs.declared.pairs.Pair.{Pair}
 use Rattle.dep_graph.specs.Pairs.{has_pair}
 use Rattle.dep_graph.specs.Lists.{GraphLists, live_in}
-use Rattle.dep_graph.proofs.GraphLemmas.{dirty_within, live_is, no_way_from, no_way_to}
+use Rattle.dep_graph.proofs.GraphLemmas.{live_is, no_way_from, no_way_to}
 use Rattle.dep_graph.proofs.PathLemmas.{closes_more, way_more}
 use Rattle.dep_graph.proofs.graph.Graph.closes.Goals as goal
 
@@ -13,7 +13,7 @@ returns-then-not-contains-clause-closes c =
       λ h. absurd (true≢false (sym h)),
       λ closes. absurd (elim closes [
         | inl same ↦ c.if-before-after.false same
-        | inr way ↦ no_way_to c.self.inside.dirty c.self.inside.hung.items c.self.inside.nodes.items c.self.inside.live.items c.self.inside.barred.items c.args.after c.args.before c.self.invariant.0 off
+        | inr way ↦ no_way_to c.self.inside.dirty c.self.inside.hung.items c.self.inside.hung_only c.self.inside.live.items c.self.inside.barred.items c.args.after c.args.before c.self.invariant.0 off
             (way_more (λ a b h. sym (live_is c.self.inside.live.items c.self.inside.barred.items a b) ∙ ap (λ (g : GraphLists). live_in g a b) c.self.view_is ∙ h) way)
       ]),
     )
@@ -24,13 +24,13 @@ returns-then-not-contains-2-clause-closes c =
       λ h. absurd (true≢false (sym h)),
       λ closes. absurd (elim closes [
         | inl same ↦ c.if-before-after.false same
-        | inr way ↦ no_way_from c.self.inside.dirty c.self.inside.hung.items c.self.inside.nodes.items c.self.inside.live.items c.self.inside.barred.items c.args.after c.args.before c.self.invariant.0 off
+        | inr way ↦ no_way_from c.self.inside.dirty c.self.inside.hung.items c.self.inside.hung_only c.self.inside.live.items c.self.inside.barred.items c.args.after c.args.before c.self.invariant.0 off
             (way_more (λ a b h. sym (live_is c.self.inside.live.items c.self.inside.barred.items a b) ∙ ap (λ (g : GraphLists). live_in g a b) c.self.view_is ∙ h) way)
       ]),
     )
 
 pub reaches-requires-clause-room : goal.reaches-requires-clause-room
-reaches-requires-clause-room c = let within = dirty_within c.self.inside.dirty c.self.inside.hung.items c.self.inside.nodes.items c.self.inside.live.items c.self.inside.barred.items c.self.invariant.0 in omega (arith, c.self.invariant.1.search_fits, ap length c.pages.ensures.pages)
+reaches-requires-clause-room c = omega (arith, c.self.invariant.1.search_fits, ap length c.pages.ensures.pages)
 
 -- the look-up in the lists is the look-up in the vector
 same : (c : goal.After-reaches) (a b : ℕ) → has_pair c.deref.result.now a b ≡ live_in c.args.self.now a b

@@ -1,25 +1,26 @@
-use Rattle.std.proofs.Common.{◌≡◌, ap, subst, sym, ◌∙◌, Bool, not, ◌||◌, ◌&&◌, ℕ, List, length, eqb, arith}
-use Rattle.std.proofs.lemmas.Bool.{and_parts}
+use Rattle.std.proofs.Common.{◌≡◌, ap, subst, sym, ◌∙◌, inl, inr, ◌+◌, ◌≤◌, Bool, not, ◌&&◌, ℕ, List, length, eqb, arith}
+use Rattle.std.proofs.lemmas.Bool.{and_parts, cases_Bool}
+use Rattle.std.specs.Int.{from_bool}
 use Rattle.dep_graph.specs.declared.pairs.Pair.{Pair}
 use Rattle.dep_graph.specs.Pages.{holds}
 use Rattle.dep_graph.specs.Pairs.{AreRising, has_pair, ends_at, from_page}
 use Rattle.dep_graph.specs.Lists.{GraphLists, IsGraph, live_in, barred_in, waits_in}
 use Rattle.dep_graph.specs.Kept.{IsKept}
-use Rattle.dep_graph.proofs.GraphLemmas.{graph_of, dirty_within, ends_parts, has_not_from, live_is, barred_is, length_parts, none_leads, none_from}
-use Rattle.dep_graph.proofs.PageLemmas.{fewer}
+use Rattle.dep_graph.proofs.GraphLemmas.{graph_of, ends_parts, has_not_from, live_is, barred_is, length_parts, none_leads, none_from}
+use Rattle.dep_graph.proofs.PageLemmas.{fewer, shorter_by_one}
 use Rattle.dep_graph.proofs.KeptLemmas.{kept_drop}
 use Rattle.dep_graph.proofs.graph.Graph.drop_node.Goals as goal
 
 pub returns-then-not-contains-clause-live : goal.returns-then-not-contains-clause-live
 returns-then-not-contains-clause-live c = λ a b.
     let is = sym (live_is c.self.inside.live.items c.self.inside.barred.items a b) ∙ ap (λ (g : GraphLists). live_in g a b) c.self.view_is in
-    rw (← is) (none_from c.self.inside.dirty c.self.inside.hung.items c.self.inside.nodes.items c.self.inside.live.items c.self.inside.barred.items c.args.page a b c.self.invariant.0 (sym c.contains.ensures ∙ c.if-not-contains.true))
+    rw (← is) (none_from c.self.inside.dirty c.self.inside.hung.items c.self.inside.hung_only c.self.inside.live.items c.self.inside.barred.items c.args.page a b c.self.invariant.0 (sym c.contains.ensures ∙ c.if-not-contains.true))
 
 pub returns-then-not-contains-clause-graph : goal.returns-then-not-contains-clause-graph
-returns-then-not-contains-clause-graph c = subst IsGraph c.self.view_is (graph_of c.self.inside.dirty c.self.inside.hung.items c.self.inside.nodes.items c.self.inside.live.items c.self.inside.barred.items _ _ c.self.invariant.0)
+returns-then-not-contains-clause-graph c = subst IsGraph c.self.view_is (graph_of c.self.inside.dirty c.self.inside.hung.items c.self.inside.hung_only c.self.inside.live.items c.self.inside.barred.items _ _ c.self.invariant.0)
 
 pub leave-requires-clause-ready : goal.leave-requires-clause-ready
-leave-requires-clause-ready c = none_leads c.self.inside.dirty c.self.inside.hung.items c.self.inside.nodes.items c.self.inside.live.items c.self.inside.barred.items c.args.page c.self.invariant.0 (ap (λ (g : GraphLists). waits_in g c.args.page) c.self.view_is ∙ c.requires)
+leave-requires-clause-ready c = none_leads c.self.inside.dirty c.self.inside.hung.items c.self.inside.hung_only c.self.inside.live.items c.self.inside.barred.items c.args.page c.self.invariant.0 (ap (λ (g : GraphLists). waits_in g c.args.page) c.self.view_is ∙ c.requires)
 
 pub lower_each-requires-clause-some : goal.lower_each-requires-clause-some
 lower_each-requires-clause-some c =
@@ -34,38 +35,43 @@ lower_each-requires-clause-some c =
 pub lower_each-requires-clause-room : goal.lower_each-requires-clause-room
 lower_each-requires-clause-room c =
     let le = fewer c.leave.new.self.pages c.self.inside.dirty.pages c.leave.ensures.rising c.self.invariant.0.dirty_rising (λ a h. (and_parts _ _ (sym (c.leave.ensures.pages a) ∙ h)).0) in
-    let within = dirty_within c.self.inside.dirty c.self.inside.hung.items c.self.inside.nodes.items c.self.inside.live.items c.self.inside.barred.items c.self.invariant.0 in
     omega (arith, c.leave.ensures.room, c.self.invariant.1.dirty)
 
-pub clean-requires-clause-present : goal.clean-requires-clause-present
-clean-requires-clause-present c = c.self.invariant.0.node c.args.page ∙ ap (λ x. x || holds c.self.inside.hung.items c.args.page) (sym c.contains.ensures ∙ c.if-not-contains.false)
+at_most_one : (b : Bool) → from_bool b ≤ 1
+at_most_one b = elim (cases_Bool b) [
+  | inl e ↦ rw e (omega arith)
+  | inr e ↦ rw e (omega arith)
+]
 
-node : (d h e : Bool) → ((d || h) && (not e || h)) ≡ ((d && not e) || h)
-node d h e = grind arith
+pub overflow_add-self : goal.overflow_add-self
+overflow_add-self c = let le = at_most_one c.contains-2.result in omega (arith, c.from.ensures, c.self.invariant.1.few_nodes)
 
 pub invariant_of-self : goal.invariant_of-self
 invariant_of-self c =
     let out = c.out_of.ensures ∙ ap (λ (l : List Pair). from_page l c.args.page) c.deref.ensures.value in
-    let ready = none_leads c.self.inside.dirty c.self.inside.hung.items c.self.inside.nodes.items c.self.inside.live.items c.self.inside.barred.items c.args.page c.self.invariant.0 (ap (λ (g : GraphLists). waits_in g c.args.page) c.self.view_is ∙ c.requires) in
+    let ready = none_leads c.self.inside.dirty c.self.inside.hung.items c.self.inside.hung_only c.self.inside.live.items c.self.inside.barred.items c.args.page c.self.invariant.0 (ap (λ (g : GraphLists). waits_in g c.args.page) c.self.view_is ∙ c.requires) in
     let pages = λ (a : ℕ). ap (λ (l : List ℕ). holds l a) c.lower_each.ensures.pages ∙ c.leave.ensures.pages a in
     let fits = c.self.invariant.1 in
     let parts = length_parts c.self.inside.live.items c.args.page in
-    let left = ap length c.remove_out_of.ensures.items in (
-      subst (λ (l : List Pair). IsKept c.lower_each.new.dirty c.self.inside.hung.items c.clean.new.nodes.items l c.self.inside.barred.items) (sym c.remove_out_of.ensures.items)
-          (kept_drop c.self.inside.dirty c.self.inside.hung.items c.self.inside.nodes.items c.self.inside.live.items c.self.inside.barred.items c.self.invariant.0 c.args.page ready c.lower_each.new.dirty pages c.clean.new.nodes.items
-          (rw c.lower_each.ensures.pages c.leave.ensures.rising) c.clean.ensures.rising (subst AreRising c.remove_out_of.ensures.items c.remove_out_of.ensures.rising)
-          (λ a. c.clean.ensures.nodes a ∙ rw (c.self.invariant.0.node a, pages a, c.deref-2.ensures.value) (node (holds c.self.inside.dirty.pages a) (holds c.self.inside.hung.items a) (eqb a c.args.page)))
+    let left = ap length c.remove_out_of.ensures.items in
+    let there = sym c.contains.ensures ∙ c.if-not-contains.false in
+    let count : c.from.result ≡ from_bool (holds c.self.inside.hung.items c.args.page) = c.from.ensures ∙ ap from_bool (c.contains-2.ensures ∙ ap (λ (l : List ℕ). holds l c.args.page) c.deref-2.ensures.value) in
+    let len = shorter_by_one c.self.inside.dirty.pages c.leave.new.self.pages c.args.page c.self.invariant.0.dirty_rising c.leave.ensures.rising c.leave.ensures.pages there in
+    let same = ap length c.lower_each.ensures.pages in
+    let le = at_most_one (holds c.self.inside.hung.items c.args.page) in (
+      subst (λ (l : List Pair). IsKept c.lower_each.new.dirty c.self.inside.hung.items (c.self.inside.hung_only + c.from.result) l c.self.inside.barred.items) (sym c.remove_out_of.ensures.items)
+          (kept_drop c.self.inside.dirty c.self.inside.hung.items c.self.inside.hung_only c.self.inside.live.items c.self.inside.barred.items c.self.invariant.0 c.args.page ready c.lower_each.new.dirty pages (c.self.inside.hung_only + c.from.result)
+          there (rw c.lower_each.ensures.pages c.leave.ensures.rising) (subst AreRising c.remove_out_of.ensures.items c.remove_out_of.ensures.rising) (ap (λ n. c.self.inside.hung_only + n) count)
           (λ b. let e = ap (λ (l : List Pair). ends_at l b) out in let same = c.leave.ensures.counts b in let is = c.lower_each.ensures.counts b in omega arith)),
       record {
-        dirty = omega (arith, c.clean.ensures.len, c.lower_each.ensures.room, c.leave.ensures.room, fits.dirty);
-        hung = omega (arith, c.clean.ensures.len, fits.hung);
-        nodes_fit = omega (arith, c.clean.ensures.len, c.clean.ensures.room, fits.nodes_fit);
+        dirty = omega (arith, c.lower_each.ensures.room, c.leave.ensures.room, fits.dirty);
+        hung = omega (arith, fits.hung);
         live = omega (arith, c.remove_out_of.ensures.room, fits.live);
         barred = omega (arith, fits.barred);
-        search_fits = omega (arith, c.clean.ensures.len, fits.search_fits);
-        left_fits = omega (arith, c.clean.ensures.len, fits.left_fits);
-        level_fits = omega (arith, c.clean.ensures.len, fits.level_fits);
-        few_nodes = omega (arith, c.clean.ensures.len, fits.few_nodes);
+        search_fits = omega (arith, fits.search_fits);
+        left_fits = omega (arith, fits.left_fits);
+        level_fits = omega (arith, fits.level_fits);
+        few_nodes = omega (arith, fits.few_nodes);
         few_places = fits.few_places;
         few_edges = omega (arith, fits.few_edges);
       },
@@ -81,4 +87,4 @@ pub returns-clause-barred : goal.returns-clause-barred
 returns-clause-barred c = λ a b. barred_is c.remove_out_of.new.pairs.items c.self.inside.barred.items a b ∙ sym (barred_is c.self.inside.live.items c.self.inside.barred.items a b) ∙ ap (λ (g : GraphLists). barred_in g a b) c.self.view_is
 
 pub returns-clause-graph : goal.returns-clause-graph
-returns-clause-graph c = graph_of c.lower_each.new.dirty c.self.inside.hung.items c.clean.new.nodes.items c.remove_out_of.new.pairs.items c.self.inside.barred.items _ _ (invariant_of-self c).0
+returns-clause-graph c = graph_of c.lower_each.new.dirty c.self.inside.hung.items (c.self.inside.hung_only + c.from.result) c.remove_out_of.new.pairs.items c.self.inside.barred.items _ _ (invariant_of-self c).0

@@ -1,34 +1,78 @@
-use Rattle.std.proofs.Common.{◌≡◌, ap, subst, sym, ◌∙◌, Bool, true, false, ◌||◌, ℕ, List, eqb, arith}
+use Rattle.std.proofs.Common.{ap, subst, sym, ◌∙◌, ℕ, ◌-◌, List, arith}
+use Rattle.std.proofs.lemmas.Bool.{or_from}
 use Rattle.dep_graph.specs.Pages.{holds}
 use Rattle.dep_graph.specs.Lists.{GraphLists, IsGraph, is_node}
-use Rattle.dep_graph.proofs.GraphLemmas.{graph_of, dirty_room, there_already}
-use Rattle.dep_graph.proofs.KeptLemmas.{kept_enter}
+use Rattle.dep_graph.proofs.GraphLemmas.{graph_of, dirty_room, some_alone}
+use Rattle.dep_graph.proofs.PageLemmas.{longer_by_one}
+use Rattle.dep_graph.proofs.KeptLemmas.{enter_hung, enter_other, kept_enter}
 use Rattle.dep_graph.proofs.graph.Graph.enter.Goals as goal
 
 pub returns-then-contains-clause-graph : goal.returns-then-contains-clause-graph
-returns-then-contains-clause-graph c = subst IsGraph c.self.view_is (graph_of c.self.inside.dirty c.self.inside.hung.items c.self.inside.nodes.items c.self.inside.live.items c.self.inside.barred.items _ _ c.self.invariant.0)
+returns-then-contains-clause-graph c = subst IsGraph c.self.view_is (graph_of c.self.inside.dirty c.self.inside.hung.items c.self.inside.hung_only c.self.inside.live.items c.self.inside.barred.items _ _ c.self.invariant.0)
 
 pub enter-requires-clause-room : goal.enter-requires-clause-room
 enter-requires-clause-room c =
     let off = sym c.contains.ensures ∙ c.if-contains.false in
     let spare = ap (λ (g : GraphLists). g.spare_nodes) c.self.view_is in
-    let room = dirty_room c.self.inside.dirty c.self.inside.hung.items c.self.inside.nodes.items c.self.inside.live.items c.self.inside.barred.items c.args.page c.self.inside.spare_nodes c.self.invariant.0 off
+    let room = dirty_room c.self.inside.dirty c.self.inside.hung.items c.self.inside.hung_only c.self.inside.live.items c.self.inside.barred.items c.args.page c.self.inside.spare_nodes c.self.invariant.0 off
     (λ none. let some = c.requires (sym (ap (λ (g : GraphLists). is_node g c.args.page) c.self.view_is) ∙ none) in omega arith) in
     omega (arith, c.self.invariant.1.dirty)
 
-pub returns-then-not-contains-clause-graph : goal.returns-then-not-contains-clause-graph
-returns-then-not-contains-clause-graph c =
-    let off : holds c.self.inside.hung.items c.args.page ≡ false = ap (λ (l : List ℕ). holds l c.args.page) (sym c.deref.ensures.value) ∙ sym c.contains-2.ensures ∙ c.if-not-contains.true in
-    graph_of c.enter.new.self c.self.inside.hung.items c.insert.new.pages.items c.self.inside.live.items c.self.inside.barred.items _ _
-    (kept_enter c.self.inside.dirty c.self.inside.hung.items c.self.inside.nodes.items c.self.inside.live.items c.self.inside.barred.items c.self.invariant.0 c.args.page c.enter.new.self c.insert.new.pages.items c.enter.ensures.pages c.enter.ensures.counts c.enter.ensures.rising c.insert.ensures.rising
-    (λ a. rw (c.insert.ensures.pages a, c.enter.ensures.pages a, c.self.invariant.0.node a) (swap (holds c.self.inside.dirty.pages a) (holds c.self.inside.hung.items a) (eqb a c.args.page))))
-  where
-    swap : (x y z : Bool) → ((x || y) || z) ≡ ((x || z) || y)
-    swap x y z = grind arith
+pub overflow_sub-self : goal.overflow_sub-self
+overflow_sub-self c = some_alone c.self.inside.dirty c.self.inside.hung.items c.self.inside.hung_only c.self.inside.live.items c.self.inside.barred.items c.args.page c.self.invariant.0 (sym c.contains.ensures ∙ c.if-contains.false)
+    (ap (λ (l : List ℕ). holds l c.args.page) (sym c.deref.ensures.value) ∙ sym c.contains-2.ensures ∙ c.if-contains-2.true)
 
-pub returns-else-not-contains-clause-graph : goal.returns-else-not-contains-clause-graph
-returns-else-not-contains-clause-graph c =
-    let on : holds c.self.inside.hung.items c.args.page ≡ true = ap (λ (l : List ℕ). holds l c.args.page) (sym c.deref.ensures.value) ∙ sym c.contains-2.ensures ∙ c.if-not-contains.false in
-    graph_of c.enter.new.self c.self.inside.hung.items c.self.inside.nodes.items c.self.inside.live.items c.self.inside.barred.items _ _
-    (kept_enter c.self.inside.dirty c.self.inside.hung.items c.self.inside.nodes.items c.self.inside.live.items c.self.inside.barred.items c.self.invariant.0 c.args.page c.enter.new.self c.self.inside.nodes.items c.enter.ensures.pages c.enter.ensures.counts c.enter.ensures.rising c.self.invariant.0.nodes_rising
-    (λ a. c.self.invariant.0.node a ∙ sym (rw (c.enter.ensures.pages a) (there_already (holds c.self.inside.dirty.pages a) (holds c.self.inside.hung.items) a c.args.page on))))
+pub invariant_of-self : goal.invariant_of-self
+invariant_of-self c =
+    let off = sym c.contains.ensures ∙ c.if-contains.false in
+    let on = ap (λ (l : List ℕ). holds l c.args.page) (sym c.deref.ensures.value) ∙ sym c.contains-2.ensures ∙ c.if-contains-2.true in
+    let alone = enter_hung c.self.inside.dirty c.self.inside.hung.items c.self.inside.hung_only c.self.inside.live.items c.self.inside.barred.items c.self.invariant.0 c.args.page c.enter.new.self c.enter.ensures.pages off on in
+    let len = longer_by_one c.self.inside.dirty.pages c.enter.new.self.pages c.args.page c.self.invariant.0.dirty_rising c.enter.ensures.rising c.enter.ensures.pages off in
+    let some = some_alone c.self.inside.dirty c.self.inside.hung.items c.self.inside.hung_only c.self.inside.live.items c.self.inside.barred.items c.args.page c.self.invariant.0 off on in
+    let fits = c.self.invariant.1 in (
+      kept_enter c.self.inside.dirty c.self.inside.hung.items c.self.inside.hung_only c.self.inside.live.items c.self.inside.barred.items c.self.invariant.0 c.args.page c.enter.new.self (c.self.inside.hung_only - 1) c.enter.ensures.pages c.enter.ensures.counts c.enter.ensures.rising alone,
+      record {
+        dirty = omega (arith, c.enter.ensures.room, fits.dirty);
+        hung = omega (arith, fits.hung);
+        live = fits.live;
+        barred = fits.barred;
+        search_fits = omega (arith, fits.search_fits);
+        left_fits = omega (arith, fits.left_fits);
+        level_fits = omega (arith, fits.level_fits);
+        few_nodes = omega (arith, fits.few_nodes);
+        few_places = fits.few_places;
+        few_edges = fits.few_edges;
+      },
+      c.self.invariant.2,
+    )
+
+pub invariant_of-self-else-contains-2 : goal.invariant_of-self-else-contains-2
+invariant_of-self-else-contains-2 c =
+    let off = sym c.contains.ensures ∙ c.if-contains.false in
+    let none = ap (λ (l : List ℕ). holds l c.args.page) (sym c.deref.ensures.value) ∙ sym c.contains-2.ensures ∙ c.if-contains-2.false in
+    let alone = enter_other c.self.inside.dirty c.self.inside.hung.items c.self.inside.hung_only c.self.inside.live.items c.self.inside.barred.items c.self.invariant.0 c.args.page c.enter.new.self c.enter.ensures.pages none in
+    let len = longer_by_one c.self.inside.dirty.pages c.enter.new.self.pages c.args.page c.self.invariant.0.dirty_rising c.enter.ensures.rising c.enter.ensures.pages off in
+    let spare = ap (λ (g : GraphLists). g.spare_nodes) c.self.view_is in
+    let some = c.requires (sym (ap (λ (g : GraphLists). is_node g c.args.page) c.self.view_is) ∙ or_from _ _ off none) in
+    let fits = c.self.invariant.1 in (
+      kept_enter c.self.inside.dirty c.self.inside.hung.items c.self.inside.hung_only c.self.inside.live.items c.self.inside.barred.items c.self.invariant.0 c.args.page c.enter.new.self c.self.inside.hung_only c.enter.ensures.pages c.enter.ensures.counts c.enter.ensures.rising alone,
+      record {
+        dirty = omega (arith, c.enter.ensures.room, fits.dirty);
+        hung = omega (arith, fits.hung);
+        live = fits.live;
+        barred = fits.barred;
+        search_fits = omega (arith, fits.search_fits);
+        left_fits = omega (arith, fits.left_fits);
+        level_fits = omega (arith, fits.level_fits);
+        few_nodes = omega (arith, fits.few_nodes);
+        few_places = fits.few_places;
+        few_edges = fits.few_edges;
+      },
+      c.self.invariant.2,
+    )
+
+pub returns-then-contains-2-clause-graph : goal.returns-then-contains-2-clause-graph
+returns-then-contains-2-clause-graph c = graph_of c.enter.new.self c.self.inside.hung.items (c.self.inside.hung_only - 1) c.self.inside.live.items c.self.inside.barred.items _ _ (invariant_of-self c).0
+
+pub returns-else-contains-2-clause-graph : goal.returns-else-contains-2-clause-graph
+returns-else-contains-2-clause-graph c = graph_of c.enter.new.self c.self.inside.hung.items c.self.inside.hung_only c.self.inside.live.items c.self.inside.barred.items _ _ (invariant_of-self-else-contains-2 c).0

@@ -6,7 +6,7 @@ use Rattle.dep_graph.specs.Pairs.{has_pair}
 use Rattle.dep_graph.specs.Paths.{Closes}
 use Rattle.dep_graph.specs.Waits.{waits_for}
 use Rattle.dep_graph.specs.Lists.{GraphLists, is_ready, live_in}
-use Rattle.dep_graph.proofs.GraphLemmas.{dirty_within, least_of_first, least_same, live_is, no_way_to, ready_is}
+use Rattle.dep_graph.proofs.GraphLemmas.{least_of_first, least_same, live_is, no_way_to, ready_is}
 use Rattle.dep_graph.proofs.PathLemmas.{closes_more, way_more}
 use Rattle.dep_graph.proofs.graph.Graph.first_ready_before.Goals as goal
 
@@ -15,20 +15,20 @@ returns-then-not-contains-clause-least c =
     let off = sym c.contains.ensures ∙ c.if-not-contains.true in
     λ a h. absurd (elim h.1 [
       | inl same ↦
-          let ready = ready_is c.self.inside.dirty c.self.inside.hung.items c.self.inside.nodes.items c.self.inside.live.items c.self.inside.barred.items a c.self.invariant.0 ∙ ap (λ (g : GraphLists). is_ready g a) c.self.view_is ∙ h.0 in
+          let ready = ready_is c.self.inside.dirty c.self.inside.hung.items c.self.inside.hung_only c.self.inside.live.items c.self.inside.barred.items a c.self.invariant.0 ∙ ap (λ (g : GraphLists). is_ready g a) c.self.view_is ∙ h.0 in
           true≢false (sym (and_parts _ _ ready).0 ∙ ap (holds c.self.inside.dirty.pages) (sym same) ∙ off)
-      | inr way ↦ no_way_to c.self.inside.dirty c.self.inside.hung.items c.self.inside.nodes.items c.self.inside.live.items c.self.inside.barred.items a c.args.target c.self.invariant.0 off
+      | inr way ↦ no_way_to c.self.inside.dirty c.self.inside.hung.items c.self.inside.hung_only c.self.inside.live.items c.self.inside.barred.items a c.args.target c.self.invariant.0 off
           (way_more (λ x y e. sym (live_is c.self.inside.live.items c.self.inside.barred.items x y) ∙ ap (λ (g : GraphLists). live_in g x y) c.self.view_is ∙ e) way)
     ])
 
 pub first_reaching-requires-clause-room : goal.first_reaching-requires-clause-room
-first_reaching-requires-clause-room c = let within = dirty_within c.self.inside.dirty c.self.inside.hung.items c.self.inside.nodes.items c.self.inside.live.items c.self.inside.barred.items c.self.invariant.0 in omega (arith, c.self.invariant.1.search_fits, ap length c.pages.ensures.pages)
+first_reaching-requires-clause-room c = omega (arith, c.self.invariant.1.search_fits, ap length c.pages.ensures.pages)
 
 same : (c : goal.After-first_reaching) (a b : ℕ) → has_pair c.deref.result.now a b ≡ live_in c.args.self.now a b
 same c a b = ap (λ (l : List Pair). has_pair l a b) c.deref.ensures.value ∙ sym (live_is c.self.inside.live.items c.self.inside.barred.items a b) ∙ ap (λ (g : GraphLists). live_in g a b) c.self.view_is
 
 ready : (c : goal.After-first_reaching) (a : ℕ) → (holds c.self.inside.dirty.pages a && eqb (waits_for c.self.inside.dirty a) 0) ≡ is_ready c.args.self.now a
-ready c a = ready_is c.self.inside.dirty c.self.inside.hung.items c.self.inside.nodes.items c.self.inside.live.items c.self.inside.barred.items a c.self.invariant.0 ∙ ap (λ (g : GraphLists). is_ready g a) c.self.view_is
+ready c a = ready_is c.self.inside.dirty c.self.inside.hung.items c.self.inside.hung_only c.self.inside.live.items c.self.inside.barred.items a c.self.invariant.0 ∙ ap (λ (g : GraphLists). is_ready g a) c.self.view_is
 
 pub returns-clause-least : goal.returns-clause-least
 returns-clause-least c =

@@ -5,18 +5,18 @@ use Rattle.dep_graph.specs.Pages.{holds}
 use Rattle.dep_graph.specs.Pairs.{has_pair}
 use Rattle.dep_graph.specs.Lists.{GraphLists, barred_in, dirty_in, hung_in, live_in}
 use Rattle.dep_graph.specs.Marks.{IsGreatestLevel, marks_of}
-use Rattle.dep_graph.proofs.GraphLemmas.{barred_is, dirty_within, live_is}
+use Rattle.dep_graph.proofs.GraphLemmas.{barred_is, live_is}
 use Rattle.dep_graph.proofs.LevelLemmas.{greatest_alone, greatest_with_hung, holds_none, holds_some}
 use Rattle.dep_graph.proofs.graph.Graph.levels.Goals as goal
 
 pub greatest_level-greatest-requires-clause-room : goal.greatest_level-greatest-requires-clause-room
-greatest_level-greatest-requires-clause-room c = let within = dirty_within c.self.inside.dirty c.self.inside.hung.items c.self.inside.nodes.items c.self.inside.live.items c.self.inside.barred.items c.self.invariant.0 in omega (arith, c.self.invariant.1.search_fits, ap length c.pages.ensures.pages)
+greatest_level-greatest-requires-clause-room c = omega (arith, c.self.invariant.1.search_fits, ap length c.pages.ensures.pages)
 
 pub greatest_level-greatest-requires-clause-left_room : goal.greatest_level-greatest-requires-clause-left_room
-greatest_level-greatest-requires-clause-left_room c = let within = dirty_within c.self.inside.dirty c.self.inside.hung.items c.self.inside.nodes.items c.self.inside.live.items c.self.inside.barred.items c.self.invariant.0 in omega (arith, c.self.invariant.1.left_fits, ap length c.pages.ensures.pages)
+greatest_level-greatest-requires-clause-left_room c = omega (arith, c.self.invariant.1.left_fits, ap length c.pages.ensures.pages)
 
 pub greatest_level-greatest-requires-clause-level_room : goal.greatest_level-greatest-requires-clause-level_room
-greatest_level-greatest-requires-clause-level_room c = let within = dirty_within c.self.inside.dirty c.self.inside.hung.items c.self.inside.nodes.items c.self.inside.live.items c.self.inside.barred.items c.self.invariant.0 in omega (arith, c.self.invariant.1.level_fits, ap length c.pages.ensures.pages)
+greatest_level-greatest-requires-clause-level_room c = omega (arith, c.self.invariant.1.level_fits, ap length c.pages.ensures.pages)
 
 pub returns-then-is_empty-clause-level : goal.returns-then-is_empty-clause-level
 returns-then-is_empty-clause-level c =

@@ -1,9 +1,10 @@
-use Rattle.std.proofs.Common.{◌≡◌, ap, length, ◌∙◌, arith}
-use Rattle.dep_graph.specs.Lists.{node_count}
-use Rattle.dep_graph.proofs.GraphLemmas.{nodes_are}
+use Rattle.std.proofs.Common.{◌≡◌, ◌+◌, ap, length, arith}
+use Rattle.dep_graph.specs.Kept.{hung_alone}
+use Rattle.dep_graph.specs.Lists.{GraphLists, node_count}
 use Rattle.dep_graph.proofs.graph.Graph.nodes.Goals as goal
 
 pub returns : goal.returns
 returns c =
-    let len : c.len.result ≡ length c.self.inside.nodes.items = omega arith in
-    len ∙ nodes_are c.self.inside.dirty c.self.inside.hung.items c.self.inside.nodes.items c.self.inside.live.items c.self.inside.barred.items c.self.invariant.0 ∙ ap node_count c.self.view_is
+    let dirty = ap (λ (g : GraphLists). length g.dirty) c.self.view_is in
+    let is : length c.self.inside.dirty.pages + length (hung_alone c.self.inside.dirty.pages c.self.inside.hung.items) ≡ node_count c.args.self.now = ap node_count c.self.view_is in
+    omega (arith, c.dirty.ensures, c.self.invariant.0.alone)

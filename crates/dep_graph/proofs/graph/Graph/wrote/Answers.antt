@@ -1,4 +1,4 @@
-use Rattle.std.proofs.Common.{◌≡◌, ap, subst, sym, ◌∙◌, not, ◌||◌, ◌&&◌, ℕ, List, length, eqb, arith}
+use Rattle.std.proofs.Common.{◌≡◌, ap, subst, sym, ◌∙◌, not, ◌||◌, ◌&&◌, ◌+◌, ℕ, List, length, eqb, arith}
 use Rattle.std.proofs.lemmas.Bool.{and_parts, not-true}
 use Rattle.dep_graph.specs.declared.pairs.Pair.{Pair}
 use Rattle.dep_graph.specs.Pages.{holds}
@@ -6,8 +6,8 @@ use Rattle.dep_graph.specs.Pairs.{AreRising, has_pair, ends_at, from_page}
 use Rattle.dep_graph.specs.Waits.{waits_for}
 use Rattle.dep_graph.specs.Lists.{GraphLists, is_ready, live_in, barred_in}
 use Rattle.dep_graph.specs.Kept.{IsKept}
-use Rattle.dep_graph.proofs.GraphLemmas.{graph_of, hung_room, dirty_within, ends_parts, has_from, has_not_from, live_is, barred_is, length_parts, none_leads}
-use Rattle.dep_graph.proofs.PageLemmas.{fewer}
+use Rattle.dep_graph.proofs.GraphLemmas.{graph_of, hung_room, ends_parts, has_from, has_not_from, live_is, barred_is, length_parts, none_leads}
+use Rattle.dep_graph.proofs.PageLemmas.{fewer, shorter_by_one}
 use Rattle.dep_graph.proofs.KeptLemmas.{kept_wrote}
 use Rattle.dep_graph.proofs.graph.Graph.wrote.Goals as goal
 
@@ -15,7 +15,7 @@ pub leave-requires-clause-there : goal.leave-requires-clause-there
 leave-requires-clause-there c = (and_parts _ _ (ap (λ (g : GraphLists). is_ready g c.args.page) c.self.view_is ∙ c.requires)).0
 
 pub leave-requires-clause-ready : goal.leave-requires-clause-ready
-leave-requires-clause-ready c = none_leads c.self.inside.dirty c.self.inside.hung.items c.self.inside.nodes.items c.self.inside.live.items c.self.inside.barred.items c.args.page c.self.invariant.0 (not-true _ (and_parts _ _ (ap (λ (g : GraphLists). is_ready g c.args.page) c.self.view_is ∙ c.requires)).1)
+leave-requires-clause-ready c = none_leads c.self.inside.dirty c.self.inside.hung.items c.self.inside.hung_only c.self.inside.live.items c.self.inside.barred.items c.args.page c.self.invariant.0 (not-true _ (and_parts _ _ (ap (λ (g : GraphLists). is_ready g c.args.page) c.self.view_is ∙ c.requires)).1)
 
 pub bar_each-requires-clause-room : goal.bar_each-requires-clause-room
 bar_each-requires-clause-room c =
@@ -36,26 +36,27 @@ bar_each-requires-clause-some c =
 pub bar_each-requires-clause-pages_room : goal.bar_each-requires-clause-pages_room
 bar_each-requires-clause-pages_room c =
     let le = fewer c.leave.new.self.pages c.self.inside.dirty.pages c.leave.ensures.rising c.self.invariant.0.dirty_rising (λ a h. (and_parts _ _ (sym (c.leave.ensures.pages a) ∙ h)).0) in
-    let within = dirty_within c.self.inside.dirty c.self.inside.hung.items c.self.inside.nodes.items c.self.inside.live.items c.self.inside.barred.items c.self.invariant.0 in
     omega (arith, c.leave.ensures.room, c.self.invariant.1.dirty)
 
 pub include-requires-clause-room : goal.include-requires-clause-room
 include-requires-clause-room c =
     let there = (and_parts _ _ (ap (λ (g : GraphLists). is_ready g c.args.page) c.self.view_is ∙ c.requires)).0 in
-    λ off. let lt = hung_room c.self.inside.dirty c.self.inside.hung.items c.self.inside.nodes.items c.self.inside.live.items c.self.inside.barred.items c.args.page c.self.invariant.0 there off in omega (arith, c.self.invariant.1.hung)
+    λ off. let lt = hung_room c.self.inside.dirty c.self.inside.hung.items c.self.inside.hung_only c.self.inside.live.items c.self.inside.barred.items c.args.page c.self.invariant.0 there off in omega (arith, c.self.invariant.1.hung)
 
 pub invariant_of-self : goal.invariant_of-self
 invariant_of-self c =
     let out = c.out_of.ensures ∙ ap (λ (l : List Pair). from_page l c.args.page) c.deref.ensures.value in
     let there = (and_parts _ _ (ap (λ (g : GraphLists). is_ready g c.args.page) c.self.view_is ∙ c.requires)).0 in
-    let ready : waits_for c.self.inside.dirty c.args.page ≡ 0 = none_leads c.self.inside.dirty c.self.inside.hung.items c.self.inside.nodes.items c.self.inside.live.items c.self.inside.barred.items c.args.page c.self.invariant.0 (not-true _ (and_parts _ _ (ap (λ (g : GraphLists). is_ready g c.args.page) c.self.view_is ∙ c.requires)).1) in
+    let ready : waits_for c.self.inside.dirty c.args.page ≡ 0 = none_leads c.self.inside.dirty c.self.inside.hung.items c.self.inside.hung_only c.self.inside.live.items c.self.inside.barred.items c.args.page c.self.invariant.0 (not-true _ (and_parts _ _ (ap (λ (g : GraphLists). is_ready g c.args.page) c.self.view_is ∙ c.requires)).1) in
     let fits = c.self.invariant.1 in
     let parts = length_parts c.self.inside.live.items c.args.page in
     let left = ap length c.remove_out_of.ensures.items in
     let gone = ap length out in
-    let more = c.bar_each.ensures.len in (
-      subst (λ (l : List Pair). IsKept c.bar_each.new.dirty c.include.new.pages.items c.self.inside.nodes.items l c.bar_each.new.barred.items) (sym c.remove_out_of.ensures.items)
-          (kept_wrote c.self.inside.dirty c.self.inside.hung.items c.self.inside.nodes.items c.self.inside.live.items c.self.inside.barred.items c.self.invariant.0 c.args.page ready c.bar_each.new.dirty (λ a. ap (λ (l : List ℕ). holds l a) c.bar_each.ensures.pages ∙ c.leave.ensures.pages a)
+    let more = c.bar_each.ensures.len in
+    let len = shorter_by_one c.self.inside.dirty.pages c.leave.new.self.pages c.args.page c.self.invariant.0.dirty_rising c.leave.ensures.rising c.leave.ensures.pages there in
+    let same = ap length c.bar_each.ensures.pages in (
+      subst (λ (l : List Pair). IsKept c.bar_each.new.dirty c.include.new.pages.items (c.self.inside.hung_only + 1) l c.bar_each.new.barred.items) (sym c.remove_out_of.ensures.items)
+          (kept_wrote c.self.inside.dirty c.self.inside.hung.items c.self.inside.hung_only c.self.inside.live.items c.self.inside.barred.items c.self.invariant.0 c.args.page ready c.bar_each.new.dirty (λ a. ap (λ (l : List ℕ). holds l a) c.bar_each.ensures.pages ∙ c.leave.ensures.pages a)
           c.include.new.pages.items c.bar_each.new.barred.items there
           (rw c.bar_each.ensures.pages c.leave.ensures.rising) c.include.ensures.rising (subst AreRising c.remove_out_of.ensures.items c.remove_out_of.ensures.rising) c.bar_each.ensures.rising c.include.ensures.pages
           (λ a b. c.bar_each.ensures.pairs a b ∙ ap (λ (l : List Pair). has_pair c.self.inside.barred.items a b || has_pair l a b) out)
@@ -63,13 +64,12 @@ invariant_of-self c =
       record {
         dirty = omega (arith, c.bar_each.ensures.pages_room, c.leave.ensures.room, fits.dirty);
         hung = omega (arith, c.include.ensures.room, fits.hung);
-        nodes_fit = fits.nodes_fit;
         live = omega (arith, c.remove_out_of.ensures.room, fits.live);
         barred = omega (arith, c.bar_each.ensures.room, fits.barred);
-        search_fits = fits.search_fits;
-        left_fits = fits.left_fits;
-        level_fits = fits.level_fits;
-        few_nodes = fits.few_nodes;
+        search_fits = omega (arith, fits.search_fits);
+        left_fits = omega (arith, fits.left_fits);
+        level_fits = omega (arith, fits.level_fits);
+        few_nodes = omega (arith, fits.few_nodes);
         few_places = fits.few_places;
         few_edges = omega (arith, fits.few_edges);
       },
@@ -91,4 +91,4 @@ returns-clause-barred c =
     ∙ ap (λ (l : List Pair). has_pair c.self.inside.barred.items a b || has_pair l a b) out ∙ ap (λ x. has_pair c.self.inside.barred.items a b || x) (has_from c.self.inside.live.items c.args.page a b) ∙ rw (live, barred)
 
 pub returns-clause-graph : goal.returns-clause-graph
-returns-clause-graph c = graph_of c.bar_each.new.dirty c.include.new.pages.items c.self.inside.nodes.items c.remove_out_of.new.pairs.items c.bar_each.new.barred.items _ _ (invariant_of-self c).0
+returns-clause-graph c = graph_of c.bar_each.new.dirty c.include.new.pages.items (c.self.inside.hung_only + 1) c.remove_out_of.new.pairs.items c.bar_each.new.barred.items _ _ (invariant_of-self c).0
