@@ -1,3 +1,4 @@
 pub mod TableLemmas
 pub mod SweepLemmas
 pub mod CallLemmas
+pub mod PageLemmas

@@ -1,6 +1,6 @@
 -- What the tables say after each call.
 use Rattle.std.proofs.Common.{◌≡◌, inl, inr, ℕ, ◌≤◌, ◌+◌, ◌&&◌, ◌||◌, Bool, true, false, not, cond, eqb, Option, Some, None, refl, sym, ◌∙◌, ap, subst, arith, eq-eqb, eqb-true}
-use Rattle.std.specs.Prelude.{nat_le, nat_lt}
+use Rattle.std.specs.Prelude.{is_some, nat_le, nat_lt}
 use Rattle.std.specs.Map.{lookup}
 use Rattle.std.proofs.lemmas.Bool.{cases_Bool}
 use Rattle.std.proofs.lemmas.Bool.Decides.{nat_tests}
@@ -31,13 +31,15 @@ module _ (pages later : PagesView) where
 module _ (b c : BirthsView) (records : (s : Slot) → record_in c s ≡ record_in b s) (moments : (s : Slot) (v : ℕ) → moment_in c s v ≡ moment_in b s v) where
   -- the same records over other marks
   pub behind_still : (moment : ℕ) → AreBehind b moment → ((p : ℕ) → (mark_of c.pages p).settled_at ≤ moment) → ((p : ℕ) → (mark_of c.pages p).tried_at ≤ moment)
-      → ((p : ℕ) → is_known c.pages p ≡ is_known b.pages p) → AreBehind c moment
-  behind_still moment is settled tried known = record {
+      → ((p : ℕ) → is_known c.pages p ≡ is_known b.pages p)
+      → ((s : Slot) (r : Record) → record_in b s ≡ Some r → is_live c.pages (Some r) ≡ true → is_some (mark_of c.pages r.page).last ≡ true) → AreBehind c moment
+  behind_still moment is settled tried known noted = record {
     settled = settled;
     tried = tried;
     changed = λ s r h. is.changed s r (sym (records s) ∙ h);
     first = λ s r h. is.first s r (sym (records s) ∙ h);
     known = λ s r h. known r.page ∙ is.known s r (sym (records s) ∙ h);
+    noted = λ s r h. noted s r (sym (records s) ∙ h);
     met = λ s v m h. is.met s v m (sym (moments s v) ∙ h);
   }
 
@@ -75,6 +77,7 @@ module _ (b c : BirthsView) (records : (s : Slot) → record_in c s ≡ record_i
 
   pub tried_behind : AreBehind c moment
   tried_behind = behind_still b c records moments moment is (λ p. rw (marks p) (is.settled p)) (λ p. rw (marks p) (few (eqb at p && is_known b.pages p) _ (is.tried p))) known
+      (λ s r h on. rw (marks r.page) (is.noted s r h (sym (live_same b.pages c.pages (λ p. rw (marks p)) (Some r) (Some r) refl) ∙ on)))
     where
       few : (a : Bool) (t : ℕ) → t ≤ moment → cond a moment t ≤ moment
       few true t h = omega arith
@@ -93,15 +96,16 @@ module _ (b c : BirthsView) (records : (s : Slot) → record_in c s ≡ record_i
 
 -- the page was written
 module _ (b c : BirthsView) (records : (s : Slot) → record_in c s ≡ record_in b s) (moments : (s : Slot) (v : ℕ) → moment_in c s v ≡ moment_in b s v) (moment at : ℕ) (is : AreBehind b moment)
-    (marks : (p : ℕ) → mark_of c.pages p ≡ record (mark_of b.pages p) { written = (eqb at p && is_known b.pages p) || (mark_of b.pages p).written })
+    (marks : (p : ℕ) → mark_of c.pages p ≡ record (mark_of b.pages p) { written = (eqb at p && is_some (mark_of b.pages p).last) || (mark_of b.pages p).written; listed = (eqb at p && is_some (mark_of b.pages p).last) || (mark_of b.pages p).listed })
     (known : (p : ℕ) → is_known c.pages p ≡ is_known b.pages p) where
   pub written_behind : AreBehind c moment
   written_behind = behind_still b c records moments moment is (λ p. rw (marks p) (is.settled p)) (λ p. rw (marks p) (is.tried p)) known
+      (λ s r h on. rw (marks r.page) (is.noted s r h (sym (live_same b.pages c.pages (λ p. rw (marks p)) (Some r) (Some r) refl) ∙ on)))
 
-  written_here : (o : Option Record) → ((r : Record) → o ≡ Some r → is_known b.pages r.page ≡ true) → is_live b.pages o ≡ true
+  written_here : (o : Option Record) → ((r : Record) → o ≡ Some r → is_live b.pages (Some r) ≡ true → is_some (mark_of b.pages r.page).last ≡ true) → is_live b.pages o ≡ true
       → (mark_of c.pages (page_in o)).written ≡ (eqb at (page_in o) || (mark_of b.pages (page_in o)).written)
   written_here None is h = absurd (cc)
-  written_here (Some r) is h = let k = is r refl in elim (cases_Bool (eqb at r.page)) [ inl f ↦ rw (marks r.page, k, f) | inr f ↦ rw (marks r.page, f) ]
+  written_here (Some r) is h = let k = is r refl h in elim (cases_Bool (eqb at r.page)) [ inl f ↦ rw (marks r.page, k, f) | inr f ↦ rw (marks r.page, f) ]
 
   pub written_is : WrittenAt b c at
   written_is = record {
@@ -111,7 +115,7 @@ module _ (b c : BirthsView) (records : (s : Slot) → record_in c s ≡ record_i
       value = λ s. ap left_in (records s);
     };
     met = λ s v. rw (live s, meets_same b.pages c.pages (λ p. rw (marks p)) v (moment_in b s v) (moment_in c s v) (record_in b s) (record_in c s) (moments s v) (records s));
-    here = λ s h. written_here (record_in b s) (is.known s) h;
+    here = λ s h. written_here (record_in b s) (is.noted s) h;
     other = λ p h. ap (λ (m : Mark). m.written) (marks p) ∙ rw h;
   }
     where
@@ -121,13 +125,6 @@ module _ (b c : BirthsView) (records : (s : Slot) → record_in c s ≡ record_i
 -- a barrier
 module _ (b c : BirthsView) (records : (s : Slot) → record_in c s ≡ record_in b s) (moments : (s : Slot) (v : ℕ) → moment_in c s v ≡ moment_in b s v) (moment : ℕ) (is : AreBehind b moment)
     (marks : (p : ℕ) → mark_of c.pages p ≡ settled moment (mark_of b.pages p)) (known : (p : ℕ) → is_known c.pages p ≡ is_known b.pages p) where
-  pub fixed_behind : AreBehind c moment
-  fixed_behind = behind_still b c records moments moment is (λ p. rw (marks p) (few (mark_of b.pages p).written _ (is.settled p))) (λ p. rw (marks p) (is.tried p)) known
-    where
-      few : (a : Bool) (t : ℕ) → t ≤ moment → cond a moment t ≤ moment
-      few true t h = omega arith
-      few false t h = h
-
   settled_one : (w : Bool) (t n : ℕ) → n ≤ moment → nat_lt (cond w moment t) n ≡ (nat_lt t n && not w)
   settled_one true t n h = let off : nat_lt moment n ≡ false = grind (arith, nat_tests) in rw off (elim (cases_Bool (nat_lt t n)) [ inl f ↦ rw f | inr f ↦ rw f ])
   settled_one false t n h = elim (cases_Bool (nat_lt t n)) [ inl f ↦ rw f | inr f ↦ rw f ]
@@ -142,6 +139,18 @@ module _ (b c : BirthsView) (records : (s : Slot) → record_in c s ≡ record_i
 
   not_written : (l w : Bool) → (l && not w) ≡ true → w ≡ false
   not_written l w h = grind arith
+
+  was_live : (l w : Bool) → (l && not w) ≡ true → l ≡ true
+  was_live l w h = grind arith
+
+  pub fixed_behind : AreBehind c moment
+  fixed_behind = behind_still b c records moments moment is (λ p. rw (marks p) (few (mark_of b.pages p).written _ (is.settled p))) (λ p. rw (marks p) (is.tried p)) known
+      (λ s r h on. let both = sym (settled_live (Some r) (Some r) refl (λ q e. is.changed s q (h ∙ e))) ∙ on in
+      rw (marks r.page) (rw (not_written (is_live b.pages (Some r)) (mark_of b.pages r.page).written both) (is.noted s r h (was_live (is_live b.pages (Some r)) (mark_of b.pages r.page).written both))))
+    where
+      few : (a : Bool) (t : ℕ) → t ≤ moment → cond a moment t ≤ moment
+      few true t h = omega arith
+      few false t h = h
 
   pub fixed_is : FixedAll b c
   fixed_is = record {
@@ -173,7 +182,8 @@ pair_is s t v w = refl
 module _ (b c : BirthsView) (slot : Slot) (at from to moment : ℕ) (is : AreBehind b moment) (was : Option Record) (was_is : was ≡ cond (recorded_in b slot) (record_in b slot) None)
     (records : (s : Slot) → record_in c s ≡ cond (same_slot slot s) (Some (record { page = at; value = to; first = first_of was (moment + 1); moment = moment + 1 })) (record_in b s))
     (before : Option Pair) (moments : (q : Pair) → lookup (same_pair.it q) c.moments ≡ cond ((is_tried b.pages was && not (is_after (first_of was (moment + 1)) (moment_in b slot from))) && same_pair.it (record { slot = slot; value = from }) q) (Some (record { moment = moment + 1; before = before })) (lookup (same_pair.it q) b.moments))
-    (last : Option Pair) (marks : (p : ℕ) → mark_of c.pages p ≡ record (mark_of b.pages p) { written = cond (eqb at p) false (mark_of b.pages p).written; last = cond (eqb at p) last (mark_of b.pages p).last })
+    (last : Option Pair) (last_is : last ≡ cond (is_tried b.pages was && not (is_after (first_of was (moment + 1)) (moment_in b slot from))) (Some (record { slot = slot; value = from })) (mark_of b.pages at).last)
+    (marks : (p : ℕ) → mark_of c.pages p ≡ record (mark_of b.pages p) { written = cond (eqb at p) false (mark_of b.pages p).written; last = cond (eqb at p) last (mark_of b.pages p).last })
     (known : (p : ℕ) → is_known c.pages p ≡ (eqb at p || is_known b.pages p)) where
   abbrev noted : Met
   noted = record { moment = moment + 1; before = before }
@@ -272,8 +282,8 @@ module _ (b c : BirthsView) (slot : Slot) (at from to moment : ℕ) (is : AreBeh
       here v = rw (record_here slot (slot_same slot), now_live, slot_same slot, moment_here v, tried_off)
           (met_here v (record_in b slot) (moment_in b slot v) (λ h. ap (moment_in b slot) (sym h)) (is.met slot v) (is.first slot) was_is left)
 
-  pub changed_behind : AreBehind c (moment + 1)
-  changed_behind = record {
+  pub changed_behind : (recorded_in b slot ≡ true → place_in b slot ≡ at) → AreBehind c (moment + 1)
+  changed_behind stays = record {
     settled = λ p. let h = is.settled p in rw (marks p) (omega arith);
     tried = λ p. let h = is.tried p in rw (marks p) (omega arith);
     changed = λ s r h. elim (cases_Bool (same_slot slot s)) [
@@ -288,10 +298,40 @@ module _ (b c : BirthsView) (slot : Slot) (at from to moment : ℕ) (is : AreBeh
       | inl e ↦ let q = is_present s r e h in subst (λ (x : Record). is_known c.pages x.page ≡ true) q (known at ∙ rw (eq-eqb at at refl))
       | inr e ↦ known r.page ∙ rw (is.known s r (sym (record_there s e) ∙ h)) (sym (or_true (eqb at r.page)))
     ];
+    noted = λ s r h on. elim (cases_Bool (same_slot slot s)) [
+      | inl e ↦ let q = is_present s r e h in
+          subst (λ (x : Record). is_some (mark_of c.pages x.page).last ≡ true) q (rw (marks at, eq-eqb at at refl) (rw last_is (noted_here first_met refl)))
+      | inr e ↦ let was_on = sym (live_same b.pages c.pages (λ p. rw (marks p)) (Some r) (Some r) refl) ∙ on in
+          rw (marks r.page) (noted_there r.page (is.noted s r (sym (record_there s e) ∙ h) was_on))
+    ];
     met = λ s v m h. was_noted (first_met && same_pair.it (record { slot = slot; value = from }) (record { slot = s; value = v })) (moment_in b s v) m
         (sym (moments (record { slot = s; value = v })) ∙ h) (is.met s v);
   }
     where
+      -- a slot that was recorded has something noted for its page, and else the value before is noted
+      noted_before : (o : Option Record) → record_in b slot ≡ o → is_live b.pages o ≡ true → page_in o ≡ at → is_some (mark_of b.pages at).last ≡ true
+      noted_before None e on place = absurd (cc)
+      noted_before (Some r) e on place = subst (λ p. is_some (mark_of b.pages p).last ≡ true) place (is.noted slot r e on)
+
+      noted_here : (t : Bool) → first_met ≡ t → is_some (cond t (Some (record { slot = slot; value = from })) (mark_of b.pages at).last) ≡ true
+      noted_here true e = refl
+      noted_here false e = elim (cases_Bool (recorded_in b slot)) [
+        | inl on ↦ noted_before (record_in b slot) refl on (stays on)
+        | inr off ↦ let none : was ≡ None = was_is ∙ rw off in
+            let first : first_met ≡ true = rw (none, none_after (moment_in b slot from) (is.met slot from)) in
+            let no : true ≡ false = sym first ∙ e in absurd (cc)
+      ]
+
+      noted_there : (p : ℕ) → is_some (mark_of b.pages p).last ≡ true → is_some (cond (eqb at p) last (mark_of b.pages p).last) ≡ true
+      noted_there p h = elim (cases_Bool (eqb at p)) [
+        | inl same ↦ rw (same, last_is) (either first_met (subst (λ k. is_some (mark_of b.pages k).last ≡ true) (sym (eqb-true at p same)) h))
+        | inr apart ↦ rw apart h
+      ]
+        where
+          either : (t : Bool) → is_some (mark_of b.pages at).last ≡ true → is_some (cond t (Some (record { slot = slot; value = from })) (mark_of b.pages at).last) ≡ true
+          either true h = refl
+          either false h = h
+
       is_present : (s : Slot) (r : Record) → same_slot slot s ≡ true → record_in c s ≡ Some r → present ≡ r
       is_present s r e h = let q : Some present ≡ Some r = sym (record_here s e) ∙ h in cc
 

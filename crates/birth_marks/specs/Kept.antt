@@ -1,5 +1,5 @@
 -- What the tables keep.
-use Rattle.std.specs.Prelude.{◌≡◌, ◌≤◌, ◌<◌, ◌+◌, ◌^◌, ℕ, List, true, Some}
+use Rattle.std.specs.Prelude.{◌≡◌, ◌≤◌, ◌<◌, ◌+◌, ◌^◌, ℕ, List, true, Some, is_some}
 use Rattle.std.specs.Map.{lookup}
 use Rattle.birth_marks.specs.declared.Slot.{Slot}
 use Rattle.birth_marks.specs.declared.births.Record.{Record}
@@ -7,16 +7,17 @@ use Rattle.birth_marks.specs.declared.births.Met.{Met}
 use Rattle.birth_marks.specs.declared.births.Pair.{Pair}
 use Rattle.birth_marks.specs.contracts.births.PairPartialEq.TheImpl.{eq-value as same_pair}
 use Rattle.birth_marks.specs.Calls.{same_slot}
-use Rattle.birth_marks.specs.Pages.{PagesView, is_known, mark_of}
+use Rattle.birth_marks.specs.Pages.{PagesView, is_known, mark_of, settled}
 use Rattle.birth_marks.specs.Births.{BirthsView, is_live, moment_in, record_in}
 
--- every moment lies behind, and the page of each record is known
+-- every moment lies behind, the page of each record is known, and something was noted for that of a recorded slot
 pub record AreBehind (b : BirthsView) (moment : ℕ) : Type 0 where
   pub settled : (p : ℕ) → (mark_of b.pages p).settled_at ≤ moment
   pub tried : (p : ℕ) → (mark_of b.pages p).tried_at ≤ moment
   pub changed : (s : Slot) (r : Record) → record_in b s ≡ Some r → r.moment ≤ moment
   pub first : (s : Slot) (r : Record) → record_in b s ≡ Some r → r.first ≤ moment
   pub known : (s : Slot) (r : Record) → record_in b s ≡ Some r → is_known b.pages r.page ≡ true
+  pub noted : (s : Slot) (r : Record) → record_in b s ≡ Some r → is_live b.pages (Some r) ≡ true → is_some (mark_of b.pages r.page).last ≡ true
   pub met : (s : Slot) (v : ℕ) (m : Met) → moment_in b s v ≡ Some m → m.moment ≤ moment
 
 -- there is room for so many changes
@@ -40,3 +41,10 @@ pub record SweptSoFar (pages : PagesView) (records : List (Slot × Record)) (mom
   pub swept : Swept pages records moments records' moments'
   pub records_fit : records_room ≤ records_room'
   pub moments_fit : moments_room ≤ moments_room'
+
+-- The pages that were taken off the list are settled, what was noted for them may be gone, and the others are as they were.
+pub record SettledSoFar (moment : ℕ) (pages pages' : PagesView) : Type 0 where
+  pub marks : (p : ℕ) → settled moment (mark_of pages' p) ≡ settled moment (mark_of pages p)
+  pub behind : (p : ℕ) → (mark_of pages' p).settled_at ≤ moment
+  pub known : (p : ℕ) → is_known pages' p ≡ is_known pages p
+  pub spare : pages'.spare ≡ pages.spare

@@ -4,7 +4,7 @@ ghost use Rattle.std.specs.HashMap.{spare as room_of};
 ghost use Rattle.std.specs.Map.{lookup};
 ghost use Rattle.birth_marks.specs.contracts.births.PairPartialEq.TheImpl.{eq-value as same_pair};
 ghost use Rattle.birth_marks.specs.Calls.{same_slot};
-ghost use Rattle.birth_marks.specs.Pages.{is_known, mark_of};
+ghost use Rattle.birth_marks.specs.Pages.{is_known, mark_of, settled};
 ghost use Rattle.birth_marks.specs.Kept.{Swept};
 ghost use Rattle.birth_marks.specs.Births.{Changed, FixedAll, Same, TriedAt, WrittenAt, first_of, is_after, is_live, is_tried, is_unborn_in, place_in, record_in, recorded_in, value_in};
 
@@ -85,6 +85,13 @@ fn note(moments: &mut HashMap<Pair, Met>, pair: Pair, first_met: bool, met: Met)
     }
 }
 
+// The pair that was noted last for a page, after this one.
+fn last_noted(first_met: bool, pair: Pair, before: Option<Pair>) -> Option<Pair>
+    ensures { result ≡ cond first_met (Some pair) before }
+{
+    if first_met { Some(pair) } else { before }
+}
+
 // Puts the last change of a slot in place of the one before.
 fn put(records: &mut HashMap<Slot, Record>, slot: Slot, last: Record)
     requires { 0 < room_of records.old }
@@ -127,18 +134,23 @@ fn is_recorded(pages: &Pages, records: &HashMap<Slot, Record>, slot: Slot) -> bo
     }
 }
 
-// Takes out what was noted for the pages that are settled at this moment.
-fn sweep_all(
-    pages: &Pages,
+// Settles the pages that were written with no change since, and takes out what was noted for them.
+fn settle_all(
+    pages: &mut Pages,
     records: &mut HashMap<Slot, Record>,
     moments: &mut HashMap<Pair, Met>,
     moment: u64,
 )
-    ensures swept { Swept pages.now records.old.entries moments.old.entries records.new.entries moments.new.entries }
+    requires { (p : ℕ) → (mark_of pages.old p).settled_at ≤ moment }
+    ensures mark { (p : ℕ) → mark_of pages.new p ≡ settled moment (mark_of pages.old p) }
+    ensures known { (p : ℕ) → is_known pages.new p ≡ is_known pages.old p }
+    ensures spare { pages.new.spare ≡ pages.old.spare }
+    ensures swept { Swept pages.new records.old.entries moments.old.entries records.new.entries moments.new.entries }
     ensures room { (room_of records.old ≤ room_of records.new) × (room_of moments.old ≤ room_of moments.new) }
 {
-    for place in 0..pages.len() {
-        sweep(pages, records, moments, pages.loose(place, moment));
+    while pages.has_listed() {
+        let last = pages.settle(moment);
+        sweep(pages, records, moments, last);
     }
 }
 
@@ -171,7 +183,7 @@ fn room_for(
 }
 
 impl Births {
-    /// Nothing recorded, and no room. It takes no memory.
+    /// Nothing recorded, and no room. It takes no memory. Constant.
     pub fn new(alloc: Global) -> Births
         ensures recorded { (s : Slot) → recorded_in result s ≡ false }
         ensures spare { result.spare ≡ 0 }
@@ -186,7 +198,7 @@ impl Births {
     }
 
     /// Makes room for at least so many further changes: the spare number rises to this, and falls no lower. It is the only call
-    /// that takes memory.
+    /// that takes memory. Constant where there is room already; else all that is kept may move.
     ///
     /// `NoMemory` where no memory is found, or after 2^64 changes. Nothing is changed then.
     pub fn reserve(&mut self, changes: u32) -> Result<(), NoMemory>
@@ -256,8 +268,7 @@ impl Births {
         };
         note(&mut self.moments, pair, first_met, met);
         put(&mut self.records, slot, record);
-        self.pages
-            .change(at, if first_met { Some(pair) } else { before });
+        self.pages.change(at, last_noted(first_met, pair, before));
     }
 
     // Whether the value that was left is met, and was not before.
@@ -316,15 +327,14 @@ impl Births {
 
     /// A barrier was made: the pages that were written with no change since are settled, and their slots are recorded no longer.
     ///
-    /// It costs the slots of the pages that are settled, with the values that they met, and one step over the marks of each page that
-    /// ever had a change.
+    /// It costs a step for each page that was written since the last barrier and had a recorded slot, and the slots of those that are
+    /// settled, with the values that they met. Other pages cost nothing.
     pub fn fixed(&mut self)
         ensures fixed { FixedAll self.old self.new }
         ensures spare { self.new.spare ≡ self.old.spare }
     {
-        self.pages.fixed(self.moment);
-        sweep_all(
-            &self.pages,
+        settle_all(
+            &mut self.pages,
             &mut self.records,
             &mut self.moments,
             self.moment,

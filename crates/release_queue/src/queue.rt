@@ -64,7 +64,8 @@ fn fix(releases: &mut [Release])
 }
 
 impl Queue {
-    /// An empty queue with room for `limit` releases; it holds no more. `NoMemory` where no memory is found.
+    /// An empty queue with room for `limit` releases; it holds no more. `NoMemory` where no memory is found. It takes the memory in one
+    /// piece; else constant.
     pub fn new(alloc: Global, limit: u32) -> Result<Queue, NoMemory>
         ensures { IfOk result (λ queue. queue ≡ record { releases = []; limit = limit }) }
     {

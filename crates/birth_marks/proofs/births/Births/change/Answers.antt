@@ -4,7 +4,9 @@ use Rattle.birth_marks.specs.declared.Slot.{Slot}
 use Rattle.birth_marks.specs.declared.births.Pair.{Pair}
 use Rattle.birth_marks.specs.contracts.births.PairPartialEq.TheImpl.{eq-value as same_pair}
 use Rattle.birth_marks.specs.Calls.{same_slot}
-use Rattle.birth_marks.specs.Births.{BirthsView, first_of, is_after, is_tried, moment_in, record_in, recorded_in, value_in}
+use Rattle.birth_marks.specs.Births.{BirthsView, first_of, is_after, is_tried, moment_in, place_in, record_in, recorded_in, value_in}
+use Rattle.birth_marks.specs.declared.pages.Mark.{Mark}
+use Rattle.birth_marks.specs.Pages.{mark_of}
 use Rattle.birth_marks.proofs.TableLemmas.{changed_behind, changed_is}
 use Rattle.birth_marks.proofs.births.Births.change.Goals as goal
 
@@ -30,9 +32,16 @@ moments_are : (c : goal.After-change) (q : Pair) → lookup (same_pair.it q) c.n
     && same_pair.it (record { slot = c.args.slot; value = c.args.from }) q) (Some (record { moment = c.self.inside.moment + 1; before = c.mark-before.result.last })) (lookup (same_pair.it q) (before c).moments)
 moments_are c q = c.note.ensures.moments q ∙ rw (first_met_is c)
 
+last_is : (c : goal.After-change) → c.last_noted.result ≡ cond (is_tried c.self.inside.pages c.live-was.result && not (is_after (first_of c.live-was.result (c.self.inside.moment + 1)) (moment_in (before c) c.args.slot c.args.from)))
+    (Some (record { slot = c.args.slot; value = c.args.from })) (mark_of c.self.inside.pages c.args.at).last
+last_is c = c.last_noted.ensures ∙ (ap (λ t. cond t (Some (record { slot = c.args.slot; value = c.args.from })) c.mark-before.result.last) (first_met_is c)
+    ∙ ap (λ (m : Mark). cond (is_tried c.self.inside.pages c.live-was.result && not (is_after (first_of c.live-was.result (c.self.inside.moment + 1)) (moment_in (before c) c.args.slot c.args.from)))
+    (Some (record { slot = c.args.slot; value = c.args.from })) m.last) c.mark-before.ensures)
+
 pub invariant_of-self : goal.invariant_of-self
 invariant_of-self c = (
-  changed_behind (before c) _ c.args.slot c.args.at c.args.from c.args.to c.self.inside.moment c.self.invariant.0 c.live-was.result (was_is c) (records_are c) _ (moments_are c) _ c.change.ensures.mark c.change.ensures.known,
+  changed_behind (before c) _ c.args.slot c.args.at c.args.from c.args.to c.self.inside.moment c.self.invariant.0 c.live-was.result (was_is c) (records_are c) _ (moments_are c) _ (last_is c) c.change.ensures.mark c.change.ensures.known
+      (subst (λ b. recorded_in b c.args.slot ≡ true → place_in b c.args.slot ≡ c.args.at) (sym c.self.view_is) c.requires.place),
   record {
     pages_fit = omega (arith, c.change.ensures.spare, c.self.invariant.1.pages_fit);
     records_fit = omega (arith, c.put.ensures.room, c.self.invariant.1.records_fit);
@@ -43,5 +52,5 @@ invariant_of-self c = (
 
 pub returns-clause-changed : goal.returns-clause-changed
 returns-clause-changed c = rw (sym c.self.view_is)
-    (changed_is (before c) _ c.args.slot c.args.at c.args.from c.args.to c.self.inside.moment c.self.invariant.0 c.live-was.result (was_is c) (records_are c) _ (moments_are c) _ c.change.ensures.mark c.change.ensures.known
+    (changed_is (before c) _ c.args.slot c.args.at c.args.from c.args.to c.self.inside.moment c.self.invariant.0 c.live-was.result (was_is c) (records_are c) _ (moments_are c) _ (last_is c) c.change.ensures.mark c.change.ensures.known
     (subst (λ b. recorded_in b c.args.slot ≡ true → value_in b c.args.slot ≡ c.args.from) (sym c.self.view_is) c.requires.value))

@@ -4,25 +4,25 @@ use Rattle.birth_marks.proofs.TableLemmas.{fixed_behind, fixed_is}
 use Rattle.birth_marks.proofs.SweepLemmas.{swept_behind, swept_fixed}
 use Rattle.birth_marks.proofs.births.Births.fixed.Goals as goal
 
-abbrev before : goal.After-sweep_all → BirthsView
+abbrev before : goal.After-settle_all → BirthsView
 before c = record { records = c.self.inside.records.entries; moments = c.self.inside.moments.entries; pages = c.self.inside.pages; spare = c.self.inside.spare }
 
-abbrev settled : goal.After-sweep_all → BirthsView
-settled c = record { records = c.self.inside.records.entries; moments = c.self.inside.moments.entries; pages = c.fixed.new.self; spare = c.self.inside.spare }
+abbrev settled : goal.After-settle_all → BirthsView
+settled c = record { records = c.self.inside.records.entries; moments = c.self.inside.moments.entries; pages = c.settle_all.new.pages; spare = c.self.inside.spare }
 
 pub invariant_of-self : goal.invariant_of-self
 invariant_of-self c = (
-  swept_behind _ _ _ _ _ c.sweep_all.ensures.swept c.self.inside.spare c.self.inside.moment
-      (fixed_behind (before c) (settled c) (λ s. refl) (λ s v. refl) c.self.inside.moment c.self.invariant.0 c.fixed.ensures.mark c.fixed.ensures.known),
+  swept_behind _ _ _ _ _ c.settle_all.ensures.swept c.self.inside.spare c.self.inside.moment
+      (fixed_behind (before c) (settled c) (λ s. refl) (λ s v. refl) c.self.inside.moment c.self.invariant.0 c.settle_all.ensures.mark c.settle_all.ensures.known),
   record {
-    pages_fit = omega (arith, c.fixed.ensures.spare, c.self.invariant.1.pages_fit);
-    records_fit = omega (arith, c.sweep_all.ensures.room.0, c.self.invariant.1.records_fit);
-    moments_fit = omega (arith, c.sweep_all.ensures.room.1, c.self.invariant.1.moments_fit);
+    pages_fit = omega (arith, c.settle_all.ensures.spare, c.self.invariant.1.pages_fit);
+    records_fit = omega (arith, c.settle_all.ensures.room.0, c.self.invariant.1.records_fit);
+    moments_fit = omega (arith, c.settle_all.ensures.room.1, c.self.invariant.1.moments_fit);
     few = c.self.invariant.1.few;
   },
 )
 
 pub returns-clause-fixed : goal.returns-clause-fixed
 returns-clause-fixed c = rw (sym c.self.view_is)
-    (swept_fixed _ _ _ _ _ c.sweep_all.ensures.swept (before c) c.self.inside.spare
-    (fixed_is (before c) (settled c) (λ s. refl) (λ s v. refl) c.self.inside.moment c.self.invariant.0 c.fixed.ensures.mark c.fixed.ensures.known))
+    (swept_fixed _ _ _ _ _ c.settle_all.ensures.swept (before c) c.self.inside.spare
+    (fixed_is (before c) (settled c) (λ s. refl) (λ s v. refl) c.self.inside.moment c.self.invariant.0 c.settle_all.ensures.mark c.settle_all.ensures.known))

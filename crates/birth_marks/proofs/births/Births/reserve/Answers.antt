@@ -4,7 +4,7 @@ use Rattle.birth_marks.proofs.births.Births.reserve.Goals as goal
 
 pub invariant_of-self : goal.invariant_of-self
 invariant_of-self c = (
-  behind_still _ _ c.room_for.ensures.records (λ s v. c.room_for.ensures.moments _) c.self.inside.moment c.self.invariant.0 (λ p. rw (c.room_for.ensures.mark p) (c.self.invariant.0.settled p)) (λ p. rw (c.room_for.ensures.mark p) (c.self.invariant.0.tried p)) c.room_for.ensures.known,
+  behind_still _ _ c.room_for.ensures.records (λ s v. c.room_for.ensures.moments _) c.self.inside.moment c.self.invariant.0 (λ p. rw (c.room_for.ensures.mark p) (c.self.invariant.0.settled p)) (λ p. rw (c.room_for.ensures.mark p) (c.self.invariant.0.tried p)) c.room_for.ensures.known (λ s r h still. rw (c.room_for.ensures.mark r.page) (c.self.invariant.0.noted s r h (rw (c.room_for.ensures.mark r.page) at still))),
   record {
     pages_fit = omega (arith, c.room_for.ensures.room.0, c.self.invariant.1.pages_fit);
     records_fit = omega (arith, c.room_for.ensures.room.1, c.self.invariant.1.records_fit);
@@ -15,7 +15,7 @@ invariant_of-self c = (
 
 pub invariant_of-self-2 : goal.invariant_of-self-2
 invariant_of-self-2 c = (
-  behind_still _ _ c.room_for.ensures.records (λ s v. c.room_for.ensures.moments _) c.self.inside.moment c.self.invariant.0 (λ p. rw (c.room_for.ensures.mark p) (c.self.invariant.0.settled p)) (λ p. rw (c.room_for.ensures.mark p) (c.self.invariant.0.tried p)) c.room_for.ensures.known,
+  behind_still _ _ c.room_for.ensures.records (λ s v. c.room_for.ensures.moments _) c.self.inside.moment c.self.invariant.0 (λ p. rw (c.room_for.ensures.mark p) (c.self.invariant.0.settled p)) (λ p. rw (c.room_for.ensures.mark p) (c.self.invariant.0.tried p)) c.room_for.ensures.known (λ s r h still. rw (c.room_for.ensures.mark r.page) (c.self.invariant.0.noted s r h (rw (c.room_for.ensures.mark r.page) at still))),
   record {
     pages_fit = c.in-Ok.ensures.ok.0;
     records_fit = c.in-Ok.ensures.ok.1;
