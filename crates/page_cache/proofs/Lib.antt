@@ -1,0 +1,5 @@
+pub mod RecentLemmas
+pub mod EntryLemmas
+pub mod EditLemmas
+pub mod MoveLemmas
+pub mod FixedLemmas
