@@ -59,14 +59,3 @@ module _ (t : CachedTables) (pages : HasPages t) (block p : ℕ) (new : Block) (
       (renamed_page t.shape (map_index block) (map_place block) p (page_of t.maps (map_index block)) new (fit (map_index block) (subst (λ (n : ℕ). n < map_pages t.shape) same in_range)) sets le (omega arith))))
       (λ other. subst (λ (b : Block). IsMapPage t.shape j b) (sym (page_kept t.maps (map_index block) (map_place block) p new within sets j other)) (fit j in_range))
       (cases_eq j (map_index block))
-
--- the tables are whole after it
-pub whole_renamed : (t : CachedTables) (next block p : ℕ) (new : Block) (pending : List Bool) → IsWhole t next → block < t.shape.blocks → p ≤ t.shape.pages
-    → SetsEntry (page_of t.maps (map_index block)) (map_place block) p new → length pending ≡ length t.pending → IsWhole (record t { maps = slice_set t.maps (map_index block) new; pending = pending }) next
-whole_renamed t next block p new pending w lt le sets same = record {
-  pages = record { valid = w.pages.valid; maps = length-set t.maps (map_index block) new ∙ w.pages.maps; counts = w.pages.counts; pending = same ∙ w.pages.pending };
-  map_pages_fit = renamed_fit t w.pages block p new lt sets le w.map_pages_fit;
-  first = w.first;
-  last = w.last;
-  counted = w.counted;
-}

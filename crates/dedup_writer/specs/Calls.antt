@@ -11,7 +11,7 @@ use Rattle.array_model.specs.Images.{Mode, left_mode}
 use Rattle.array_model.specs.Array.{BlockArray, MayBeLeft, gained, flushed, maps}
 use Rattle.dedup_writer.specs.declared.store.Refusal.{Refusal}
 use Rattle.dedup_writer.specs.declared.store.Refusal.TheVariants.{Range, Device, Damaged, Full, NoMemory}
-use Rattle.dedup_writer.specs.Core.{CoreView, map_index, count_index, cached_count, is_pending, CountsCalls}
+use Rattle.dedup_writer.specs.Core.{CoreView, map_index, count_index, cached_count, is_pending, waste, CountsCalls}
 use Rattle.dedup_writer.specs.Put.{PutsCounted}
 use Rattle.dedup_writer.specs.Stands.{StandsFor}
 
@@ -49,7 +49,7 @@ abbrev pub WriteCause : Refusal → ℕ → CoreView → Meaning → Meaning →
 WriteCause Range block core old new = core.tables.shape.blocks ≤ block
 WriteCause Device block core old new = FaultRose old new
 WriteCause (Damaged _) block core old new = ⊥
-WriteCause (Full live waste) block core old new = (live ≡ core.tables.shape.pages) × AllCounted core
+WriteCause (Full live more) block core old new = (live ≡ core.tables.shape.pages) × (more ≡ waste core.tables) × AllCounted core
 WriteCause NoMemory block core old new = ⊥
 
 -- why a read is refused

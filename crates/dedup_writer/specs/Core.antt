@@ -4,6 +4,8 @@ use Rattle.page_device.specs.Block.{Block}
 use Rattle.page_layout.specs.Numbers.{entry_of}
 use Rattle.page_layout.specs.Shape.{ShapeView, IsValid, map_pages, count_pages, map_place, count_place}
 use Rattle.page_layout.specs.Tables.{page_of}
+use Rattle.trace_text.specs.declared.reply.Stat.{Stat}
+use Rattle.array_model.specs.Counting.{count_below, counted_of, live_of, mapped_of}
 
 -- the shape, the cached map and count pages, and which map pages have yet to be written
 pub record CachedTables : Type 0 where
@@ -50,3 +52,17 @@ pub record HasPages (t : CachedTables) : Type 0 where
   pub maps : length t.maps ≡ map_pages t.shape
   pub counts : length t.counts ≡ count_pages t.shape
   pub pending : length t.pending ≡ map_pages t.shape
+
+-- how many data pages are counted, by how much the counts are above the names, and how many map pages have yet to be written
+abbrev pub live_pages : CachedTables → ℕ
+live_pages t = live_of (cached_count t) t.shape.pages
+
+abbrev pub waste : CachedTables → ℕ
+waste t = counted_of (cached_count t) t.shape.pages - mapped_of (cached_map t) t.shape.blocks
+
+abbrev pub pending_pages : CachedTables → ℕ
+pending_pages t = count_below (is_pending t) (map_pages t.shape)
+
+-- what a store tells of itself; this body postpones no release
+abbrev pub stat_of : CoreView → Stat
+stat_of core = record { live = live_pages core.tables; waste = waste core.tables; postponed = 0; dirty = pending_pages core.tables }

@@ -7,5 +7,6 @@
 
 mod put;
 mod store;
+mod totals;
 
 pub use store::{Refusal, Store, count_at, name_at};

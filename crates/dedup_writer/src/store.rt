@@ -12,10 +12,12 @@ ghost use Rattle.array_model.specs.Images.{Mode, IsGood};
 ghost use Rattle.array_model.specs.Array.{BlockArray, array_start, last, maps, writes_nothing, writes_one};
 
 use crate::put::put;
+use crate::totals::{Totals, opened};
 use page_device::{Damage, Device, Failed, NoMemory, Page};
 use page_layout::{Shape, count_entry, map_entry, set_count_entry, set_map_entry};
 use std::alloc::Global;
 use std::marker::Model;
+use trace_text::Stat;
 
 /// Why a store refuses a call.
 #[derive(Clone, Copy, Debug, PartialEq, Eq, Drop)]
@@ -46,10 +48,7 @@ pub struct Store {
     pending: Vec<bool>,
     // Each data page below it is counted.
     next: u32,
-    // The number of mapped blocks.
-    mapped: u32,
-    // The sum of all counts.
-    counted: u64,
+    totals: Totals,
     // Device writes and barriers so far.
     calls: u64,
 }
@@ -65,7 +64,7 @@ impl Model for Store {
       calls = s.calls;
     } };
 
-    ghost invariant = { λ s. IsWhole (record { shape = s.shape; maps = s.maps.items; counts = s.counts.items; pending = s.pending.items }) s.next };
+    ghost invariant = { λ s. IsWhole (record { shape = s.shape; maps = s.maps.items; counts = s.counts.items; pending = s.pending.items }) s.next s.totals };
 }
 
 // So many flags that are not set.
@@ -128,30 +127,6 @@ fn number_of_map_pages(shape: &Shape) -> u32
     shape.first_count_page() - 1
 }
 
-// How many blocks have a name in these map pages.
-fn count_mapped(shape: &Shape, maps: &[Page]) -> u32
-    requires pages { length maps.now ≡ map_pages shape.now }
-{
-    let mut mapped = 0_u32;
-    for block in 0..shape.blocks {
-        if name_at(shape, maps, block) != 0 {
-            mapped = mapped.saturating_add(1);
-        }
-    }
-    mapped
-}
-
-// The sum of the counts in these count pages.
-fn sum_counts(shape: &Shape, counts: &[Page]) -> u64
-    requires pages { length counts.now ≡ count_pages shape.now }
-{
-    let mut sum = 0_u64;
-    for p in 1..shape.pages + 1 {
-        sum = sum.saturating_add(u64::from(count_at(shape, counts, p)));
-    }
-    sum
-}
-
 // The first data page from `next` on that nothing counts, or the number behind the last one.
 fn first_free(shape: &Shape, counts: &[Page], next: u32) -> u32
     requires first { 1 ≤ next }
@@ -172,7 +147,7 @@ fn first_free(shape: &Shape, counts: &[Page], next: u32) -> u32
 }
 
 impl Store {
-    ghost use Rattle.dedup_writer.specs.Core.{CoreView, cached_map, cached_count, count_index, map_index};
+    ghost use Rattle.dedup_writer.specs.Core.{CoreView, cached_map, cached_count, count_index, map_index, stat_of, waste};
     ghost use Rattle.dedup_writer.specs.Stands.{StandsFor, AreCached};
     ghost use Rattle.dedup_writer.specs.Calls.{StoreCall, after_write, after_discard, after_flush, WriteCause, ReadCause, DiscardCause, IsFull, CountsOne, NamesOne, Settles, AllCounted};
 
@@ -193,8 +168,7 @@ impl Store {
             → d.state ≡ at_rest d.state.fixed → shape_of d.state.fixed ≡ shape → IsGood mode d.state.fixed → AreCached d.state.fixed shape maps.items counts.items
             → StandsFor mode store d (array_start d.state.fixed)) }
     {
-        let mapped = count_mapped(&shape, &maps);
-        let counted = sum_counts(&shape, &counts);
+        let totals = opened(&shape, &maps, &counts);
         let pending = no_flags(alloc, number_of_map_pages(&shape))?;
         Ok(Store {
             shape,
@@ -202,8 +176,7 @@ impl Store {
             counts,
             pending,
             next: 1,
-            mapped,
-            counted,
+            totals,
             calls: 0,
         })
     }
@@ -220,6 +193,20 @@ impl Store {
         ensures { result ≡ self.now.calls }
     {
         self.calls
+    }
+
+    /// What it holds: the data pages that are counted, how much more often they are counted than blocks name
+    /// them, no postponed release, since nothing is released, and the map pages that have yet to be written.
+    /// Constant.
+    pub fn stat(&self) -> Stat
+        ensures { result ≡ stat_of self.now }
+    {
+        Stat {
+            live: self.totals.live,
+            waste: self.totals.waste(),
+            postponed: 0,
+            dirty: self.totals.pending,
+        }
     }
 
     /// Writes a block. A block that was written reads as its new content from then on; after a crash it
@@ -259,7 +246,6 @@ impl Store {
         if self.count_one(device, p).is_err() {
             return Err(Refusal::Device);
         }
-        self.note_name(block);
         self.name_one(device, block, p);
         Ok(())
     }
@@ -286,7 +272,6 @@ impl Store {
         if self.name_of(block) == 0 {
             return Ok(());
         }
-        self.mapped = self.mapped.saturating_sub(1);
         self.name_one(device, block, 0);
         Ok(())
     }
@@ -369,6 +354,7 @@ impl Store {
         match put(device, &mut self.calls, index + 1, &self.maps[at]) {
             Ok(()) => {
                 self.pending[at] = false;
+                self.totals.marked(true, false);
                 Ok(())
             }
             Err(failed) => Err(failed),
@@ -417,11 +403,11 @@ impl Store {
 
     // Why a write finds no data page: each of them is counted, some more often than they are named.
     fn full(&self) -> Refusal
-        ensures { (waste : ℕ) × (result ≡ Refusal.Full self.now.tables.shape.pages waste) }
+        ensures { result ≡ Refusal.Full self.now.tables.shape.pages (waste self.now.tables) }
     {
         Refusal::Full {
             live: self.shape.pages,
-            waste: self.counted.saturating_sub(u64::from(self.mapped)),
+            waste: self.totals.waste(),
         }
     }
 
@@ -439,18 +425,8 @@ impl Store {
         let (page, entry) = self.shape.count_place(p);
         let index = (page - self.shape.first_count_page()) as usize;
         set_count_entry(&mut self.counts[index], entry, 1);
-        self.counted = self.counted.saturating_add(1);
+        self.totals.counted_first();
         put(device, &mut self.calls, page, &self.counts[index])
-    }
-
-    // Counts a block that is about to take its first name.
-    fn note_name(&mut self, block: u32)
-        requires { block < self.old.tables.shape.blocks }
-        ensures { self.new ≡ self.old }
-    {
-        if self.name_of(block) == 0 {
-            self.mapped = self.mapped.saturating_add(1);
-        }
     }
 
     // Gives a block the name of a data page, in the cache and then on the device. A map page that could
@@ -463,11 +439,15 @@ impl Store {
         ensures never_falls { (D.seen device.old).faults ≤ (D.seen device.new).faults }
         ensures names { NamesOne block p self.old self.new (D.seen device.old) (D.seen device.new) }
     {
+        let was = self.name_of(block);
+        self.totals.renamed(was, p);
         let (page, entry) = self.shape.map_place(block);
         let index = page as usize - 1;
         set_map_entry(&mut self.maps[index], entry, p);
+        let was_pending = self.pending[index];
         self.pending[index] = true;
-        let done = put(device, &mut self.calls, page, &self.maps[index]);
-        self.pending[index] = done.is_err();
+        let refused = put(device, &mut self.calls, page, &self.maps[index]).is_err();
+        self.pending[index] = refused;
+        self.totals.marked(was_pending, refused);
     }
 }

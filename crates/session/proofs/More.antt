@@ -7,20 +7,22 @@ use Rattle.page_device.specs.declared.device.LogEntry.{LogEntry}
 use Rattle.page_device.specs.Disk.{DeviceState, state_after}
 use Rattle.page_device.specs.Meaning.{Meaning, SameKind}
 use Rattle.page_device.specs.Moments.{EachImage, EachMoment, state_after-append, each-weaker}
+use Rattle.trace_text.specs.declared.command.Command.TheVariants.{Write, Fill, Read, Discard, Copy, Flush, Scan, Stat, Policy, Tune, Tick}
 use Rattle.trace_text.specs.declared.reply.Reply.{Reply}
+use Rattle.trace_text.specs.declared.reply.Reply.TheVariants as reply
 use Rattle.trace_text.proofs.Lengths.{line_short}
 use Rattle.array_model.specs.Images.{left_mode}
 use Rattle.array_model.specs.Images.{block_of}
 use Rattle.array_model.specs.Array.{BlockArray, MayBeLeft, Allowed, writes_nothing}
 use Rattle.page_layout.specs.Shape.{ShapeView}
-use Rattle.array_model.specs.Turns.{Asked, bad, known, Turn, Work, answered, Rules, Asks, FitsAsked, IsRun, works_of, at_after, state_after_turns, calls_of, work_writes, asked_writes, array_after_work, array_after_asked, MayLeave}
+use Rattle.array_model.specs.Turns.{Asked, bad, known, Turn, Work, answered, Rules, Asks, FitsAsked, IsRun, RunState, after_turn, unused_after, without_label, works_of, at_after, state_after_turns, calls_of, work_writes, asked_writes, array_after_work, array_after_asked, MayLeave}
 use Rattle.array_model.proofs.RunLemmas.{calls-last, array-last, leave-last, leave-none, calls-none, array-none, array_is, works_of-last, run-last, at-last}
 use Rattle.dedup_writer.specs.Core.{CoreView}
 use Rattle.dedup_writer.specs.Stands.{StandsFor}
 use Rattle.dedup_writer.specs.Calls.{StoreCall}
 use Rattle.dedup_writer.proofs.Raised.{counts_then, counts_same, counts_none}
 use Rattle.dedup_writer.proofs.Quiet.{images_now}
-use Rattle.session.specs.Answers.{is_built, rules_of, ReplyCause, AskedDone, CommandDone}
+use Rattle.session.specs.Answers.{is_built, no_policies, rules_of, ReplyCause, AskedDone, CommandDone}
 use Rattle.session.specs.Session.{kept, Start, start_state, start_rules, calls_done, array_done, EachAnswer, IsSure, NoFault, Did, Ran}
 
 -- a line of which the front is kept asks for what its front asks for
@@ -57,6 +59,42 @@ sure_answer r core d e cause = record {
 
 no_fault : (r : Reply) (core : CoreView) (d e : Meaning) → ReplyCause r core d e → e.faults ≡ d.faults → e.faults + 1 < 2 ^ 64 → NoFault r
 no_fault r core d e cause same few is = omega (arith, same, few, subst (λ (q : Reply). ReplyCause q core d e) is cause (omega (arith, same, few)))
+
+-- where no policy is unused, none is after any turns
+none_left : (label : ℕ) (r : Reply) → unused_after no_policies (known (Policy label)) r ≡ no_policies
+unfolding without_label
+none_left label reply.Done = refl
+none_left label (reply.Bytes page) = refl
+none_left label reply.Range = refl
+none_left label reply.Fault = refl
+none_left label (reply.Damaged damage) = refl
+none_left label (reply.Full live waste) = refl
+none_left label reply.NoMemory = refl
+none_left label (reply.Stat stat) = refl
+none_left label (reply.Scan report) = refl
+none_left label reply.NoPolicy = refl
+none_left label reply.Bad = refl
+none_left label reply.Overlap = refl
+none_left label (reply.Stopped done why) = refl
+
+none_more : (asked : Asked) (r : Reply) → unused_after no_policies asked r ≡ no_policies
+none_more bad r = refl
+none_more (known (Write block number)) r = refl
+none_more (known (Fill block page)) r = refl
+none_more (known (Read block)) r = refl
+none_more (known (Discard block)) r = refl
+none_more (known (Copy from to n)) r = refl
+none_more (known Flush) r = refl
+none_more (known Scan) r = refl
+none_more (known Stat) r = refl
+none_more (known (Policy label)) r = none_left label r
+none_more (known (Tune n)) r = refl
+none_more (known Tick) r = refl
+
+none_unused : (rules : Rules) (state : RunState) (turns : List Turn) → state.unused ≡ no_policies → (state_after_turns rules state turns).unused ≡ no_policies
+unfolding state_after_turns
+none_unused rules state [] none = none
+none_unused rules state (turn ∷ turns) none = none_unused rules (after_turn rules state turn) turns (ap (λ (l : List ℕ). unused_after l turn.asked turn.answer) none ∙ none_more turn.asked turn.answer)
 
 module _ (s : Start) where
   -- one more work, which a call of the store was
@@ -123,8 +161,8 @@ module _ (s : Start) where
     abbrev works : List Work
     works = works_of turns
 
-    abbrev asked_done : AskedDone s.mode (array_done s works) (state_after_turns (start_rules s) (start_state s) turns).unused done.asked answer core later d e
-    asked_done = done.done s.mode (array_done s works) (state_after_turns (start_rules s) (start_state s) turns).unused ran.stands
+    abbrev asked_done : AskedDone s.mode (array_done s works) done.asked answer core later d e
+    asked_done = done.done s.mode (array_done s works) ran.stands
 
     abbrev pub next_turn : Turn
     next_turn = record { line = line; asked = done.asked; answer = answer; at = later.calls; calls = asked_done.call.leaves.calls }
@@ -152,7 +190,8 @@ module _ (s : Start) where
     fits : FitsAsked (start_rules s) (state_after_turns (start_rules s) (start_state s) turns) done.asked answer
     fits = subst (λ (a : BlockArray). FitsAsked (start_rules s) (record { array = a; unused = (state_after_turns (start_rules s) (start_state s) turns).unused }) done.asked answer)
         (sym (array_is (left_mode s.mode) (start_rules s) (start_state s) turns))
-        (subst (λ (sh : ShapeView). let r : Rules = record { blocks = sh.blocks; version = sh.version; built = is_built } in FitsAsked r (record { array = array_done s works; unused = (state_after_turns (start_rules s) (start_state s) turns).unused }) done.asked answer) ran.shape asked_done.fits)
+        (subst (λ (l : List ℕ). FitsAsked (start_rules s) (record { array = array_done s works; unused = l }) done.asked answer) (sym (none_unused (start_rules s) (start_state s) turns refl))
+        (subst (λ (sh : ShapeView). let r : Rules = record { blocks = sh.blocks; version = sh.version; built = is_built } in FitsAsked r (record { array = array_done s works; unused = no_policies }) done.asked answer) ran.shape asked_done.fits))
 
     asks : Asks (start_rules s) line done.asked
     asks = asks_whole (start_rules s) line done.asked (asks_same done.asked done.asks)

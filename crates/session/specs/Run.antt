@@ -55,8 +55,8 @@ pub record Opened (status : Status) (d d' : Meaning) (source source' : SourceMea
   pub shape : Holds (TellsShape store.tables.shape) d
   pub status_is : EndsAs status
   -- over an honest device that tells its pages and has nothing pending, from the array of its image, which is good in this mode
-  pub served : d.honest ≡ true → d.tells_pages ≡ true → d.state ≡ at_rest d.state.fixed → (mode : Mode) → IsGood mode d.state.fixed → (unused : List ℕ)
-      → Served (record { mode = mode; array = array_start d.state.fixed; unused = unused; store = store; device = begun; sink = sink }) status core d' source source' sink'
+  pub served : d.honest ≡ true → d.tells_pages ≡ true → d.state ≡ at_rest d.state.fixed → (mode : Mode) → IsGood mode d.state.fixed
+      → Served (record { mode = mode; array = array_start d.state.fixed; store = store; device = begun; sink = sink }) status core d' source source' sink'
 
 -- what a session over the image of a device does
 pub data TraceOutcome (status : Status) (d d' : Meaning) (source source' : SourceMeaning) (sink sink' : SinkMeaning) : Type 0 where

@@ -13,23 +13,22 @@ use Rattle.array_model.specs.Array.{BlockArray}
 use Rattle.array_model.specs.Turns.{Turn, Work, Rules, RunState, IsRun, joined, IsLine, AreLines, lines_of, texts, works_of, at_after, calls_of_works, array_after_works, WorksLeave}
 use Rattle.dedup_writer.specs.Core.{CoreView, CountsCalls}
 use Rattle.dedup_writer.specs.Stands.{StandsFor}
-use Rattle.session.specs.Answers.{rules_of}
+use Rattle.session.specs.Answers.{no_policies, rules_of}
 
 -- the most that is kept of a line: a longer one is bad
 abbrev pub kept : List ℕ → List ℕ
 kept line = take 8206 line
 
--- where a session began: the mode, the array and the unused policies, the store, the device and the sink
+-- where a session began: the mode, the array, the store, the device and the sink
 pub record Start : Type 0 where
   pub mode : Mode
   pub array : BlockArray
-  pub unused : List ℕ
   pub store : CoreView
   pub device : Meaning
   pub sink : SinkMeaning
 
 abbrev pub start_state : Start → RunState
-start_state s = record { array = s.array; unused = s.unused }
+start_state s = record { array = s.array; unused = no_policies }
 
 abbrev pub start_rules : Start → Rules
 start_rules s = rules_of s.store

@@ -1,5 +1,5 @@
 // A command of the trace language, run on a store.
-ghost use Rattle.std.specs.Prelude.{◌≡◌, ℕ, ◌≤◌, List};
+ghost use Rattle.std.specs.Prelude.{◌≡◌, ◌≤◌};
 ghost use Rattle.page_layout.specs.Shape.{total};
 ghost use Rattle.array_model.specs.Images.{Mode};
 ghost use Rattle.array_model.specs.Array.{BlockArray};
@@ -31,8 +31,8 @@ fn write_numbered<D: Device>(store: &mut Store, device: &mut D, block: u32, numb
     ensures cause { ReplyCause result store.old (D.seen device.old) (D.seen device.new) }
     ensures pages { (D.seen device.new).pages ≡ (D.seen device.old).pages }
     ensures shape { store.new.tables.shape ≡ store.old.tables.shape }
-    ensures done { (mode : Mode) (a : BlockArray) (unused : List ℕ) → StandsFor mode store.old (D.seen device.old) a
-        → AskedDone mode a unused (known (Command.Write block number)) result store.old store.new (D.seen device.old) (D.seen device.new) }
+    ensures done { (mode : Mode) (a : BlockArray) → StandsFor mode store.old (D.seen device.old) a
+        → AskedDone mode a (known (Command.Write block number)) result store.old store.new (D.seen device.old) (D.seen device.new) }
 {
     match store.write(device, block, &Page::numbered(number)) {
         Ok(()) => Reply::Done,
@@ -47,8 +47,8 @@ fn fill_block<D: Device>(store: &mut Store, device: &mut D, block: u32, page: &P
     ensures cause { ReplyCause result store.old (D.seen device.old) (D.seen device.new) }
     ensures pages { (D.seen device.new).pages ≡ (D.seen device.old).pages }
     ensures shape { store.new.tables.shape ≡ store.old.tables.shape }
-    ensures done { (mode : Mode) (a : BlockArray) (unused : List ℕ) → StandsFor mode store.old (D.seen device.old) a
-        → AskedDone mode a unused (known (Command.Fill block page.now)) result store.old store.new (D.seen device.old) (D.seen device.new) }
+    ensures done { (mode : Mode) (a : BlockArray) → StandsFor mode store.old (D.seen device.old) a
+        → AskedDone mode a (known (Command.Fill block page.now)) result store.old store.new (D.seen device.old) (D.seen device.new) }
 {
     match store.write(device, block, page) {
         Ok(()) => Reply::Done,
@@ -63,8 +63,8 @@ fn discard_block<D: Device>(store: &mut Store, device: &mut D, block: u32) -> Re
     ensures cause { ReplyCause result store.old (D.seen device.old) (D.seen device.new) }
     ensures pages { (D.seen device.new).pages ≡ (D.seen device.old).pages }
     ensures shape { store.new.tables.shape ≡ store.old.tables.shape }
-    ensures done { (mode : Mode) (a : BlockArray) (unused : List ℕ) → StandsFor mode store.old (D.seen device.old) a
-        → AskedDone mode a unused (known (Command.Discard block)) result store.old store.new (D.seen device.old) (D.seen device.new) }
+    ensures done { (mode : Mode) (a : BlockArray) → StandsFor mode store.old (D.seen device.old) a
+        → AskedDone mode a (known (Command.Discard block)) result store.old store.new (D.seen device.old) (D.seen device.new) }
 {
     match store.discard(device, block) {
         Ok(()) => Reply::Done,
@@ -79,8 +79,8 @@ fn read_block<D: Device>(store: &mut Store, device: &mut D, block: u32) -> Reply
     ensures cause { ReplyCause result store.old (D.seen device.old) (D.seen device.new) }
     ensures pages { (D.seen device.new).pages ≡ (D.seen device.old).pages }
     ensures shape { store.new.tables.shape ≡ store.old.tables.shape }
-    ensures done { (mode : Mode) (a : BlockArray) (unused : List ℕ) → StandsFor mode store.old (D.seen device.old) a
-        → AskedDone mode a unused (known (Command.Read block)) result store.old store.new (D.seen device.old) (D.seen device.new) }
+    ensures done { (mode : Mode) (a : BlockArray) → StandsFor mode store.old (D.seen device.old) a
+        → AskedDone mode a (known (Command.Read block)) result store.old store.new (D.seen device.old) (D.seen device.new) }
 {
     let mut page = Page::zero();
     match store.read(device, block, &mut page) {
@@ -96,8 +96,8 @@ fn flush_all<D: Device>(store: &mut Store, device: &mut D) -> Reply
     ensures cause { ReplyCause result store.old (D.seen device.old) (D.seen device.new) }
     ensures pages { (D.seen device.new).pages ≡ (D.seen device.old).pages }
     ensures shape { store.new.tables.shape ≡ store.old.tables.shape }
-    ensures done { (mode : Mode) (a : BlockArray) (unused : List ℕ) → StandsFor mode store.old (D.seen device.old) a
-        → AskedDone mode a unused (known Command.Flush) result store.old store.new (D.seen device.old) (D.seen device.new) }
+    ensures done { (mode : Mode) (a : BlockArray) → StandsFor mode store.old (D.seen device.old) a
+        → AskedDone mode a (known Command.Flush) result store.old store.new (D.seen device.old) (D.seen device.new) }
 {
     match store.flush(device) {
         Ok(()) => Reply::Done,
@@ -120,6 +120,8 @@ fn run_command<D: Device>(store: &mut Store, device: &mut D, command: &Command) 
         Command::Discard { block } => discard_block(store, device, *block),
         Command::Read { block } => read_block(store, device, *block),
         Command::Flush => flush_all(store, device),
+        Command::Stat => Reply::Stat(store.stat()),
+        Command::Policy { label: _ } => Reply::NoPolicy,
         Command::Tune { n: _ } => Reply::Done,
         Command::Tick => Reply::Done,
         _ => Reply::Bad,

@@ -37,8 +37,8 @@ pub fn serve_trace<S: Source, K: Sink, D: Device>(
     ensures device_cause { result ≡ Status.DeviceFault → FaultRose (D.seen device.old) (D.seen device.new) }
     ensures limit_cause { result ≡ Status.InputLimit → TakesAll (S.seen source.old) (S.seen source.new) }
     ensures one_of { EndsAs result }
-    ensures served { (mode : Mode) (a : BlockArray) (unused : List ℕ) → StandsFor mode store.old (D.seen device.old) a
-        → Served (record { mode = mode; array = a; unused = unused; store = store.old; device = D.seen device.old; sink = K.seen sink.old })
+    ensures served { (mode : Mode) (a : BlockArray) → StandsFor mode store.old (D.seen device.old) a
+        → Served (record { mode = mode; array = a; store = store.old; device = D.seen device.old; sink = K.seen sink.old })
         result store.new (D.seen device.new) (S.seen source.old) (S.seen source.new) (K.seen sink.new) }
 {
     let mut line = Line::new();

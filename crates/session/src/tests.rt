@@ -62,7 +62,10 @@ fn answers(rt: HostRuntime) -> Result<(), Fail> {
             "0 bad\n0 bad\n0 bad\n0 bad\n0 bad\n",
         ),
         ("w 0 5\nf\nr 0", "6 ok\n6 ok\n6 data 0000000000000005\n"),
-        ("n 3\n.\nt\np 0\n", "0 ok\n0 ok\n0 bad\n0 bad\n"),
+        (
+            "n 3\n.\nt\np 0\n",
+            "0 ok\n0 ok\n0 stat live=0 waste=0 postponed=0 dirty=0\n0 nopolicy\n",
+        ),
         ("x 0 ABcd\nr 0\n", "6 ok\n6 data abcd\n"),
         ("w 1 5\nd 1\nd 1\nr 1\n", "6 ok\n8 ok\n8 ok\n8 data -\n"),
     ];

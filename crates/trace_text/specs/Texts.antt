@@ -81,3 +81,19 @@ damage_line damage = reply_words (reply.Damaged damage) ++ line_feed
 -- the whole text of a reply: the number of device writes and barriers so far, the words, and the end of the line
 abbrev pub text_of : ℕ → Reply → List ℕ
 text_of at r = decimal at ++ codes " " ++ reply_words r ++ line_feed
+
+-- the lines that formatting and checking an image put
+abbrev pub formatted_line : ℕ → ℕ → List ℕ
+formatted_line blocks pages = codes "formatted blocks=" ++ decimal blocks ++ codes " pages=" ++ decimal pages ++ line_feed
+
+abbrev pub sound_line : ℕ → List ℕ
+sound_line waste = codes "sound waste=" ++ decimal waste ++ line_feed
+
+abbrev pub low_count_line : ℕ → ℕ → ℕ → List ℕ
+low_count_line page stored named = codes "lowcount " ++ two page stored ++ codes " " ++ decimal named ++ line_feed
+
+abbrev pub wrong_print_line : ℕ → List ℕ
+wrong_print_line page = codes "wrongprint " ++ decimal page ++ line_feed
+
+abbrev pub print_on_zero_line : ℕ → List ℕ
+print_on_zero_line page = codes "printonzero " ++ decimal page ++ line_feed

@@ -4,6 +4,7 @@
 //! what each reply reads. `docs/FORMAT.md` is the language in prose.
 #![tactic(auto)]
 
+mod actions;
 mod command;
 mod contents;
 mod digits;
@@ -16,6 +17,9 @@ mod parsing;
 mod replies;
 mod reply;
 
+pub use actions::{
+    formatted_text, low_count_text, print_on_zero_text, sound_text, wrong_print_text,
+};
 pub use command::Command;
 pub use line_buf::LineBuf;
 pub use lines::command_text;

@@ -1,5 +1,8 @@
 // Rows of the trace language: lines and what they read as, and the text of each reply.
-use crate::{Halt, LineBuf, Reply, ScanReport, Stat, command_text, parse, read_number, reply_text};
+use crate::{
+    Halt, LineBuf, Reply, ScanReport, Stat, command_text, formatted_text, low_count_text, parse,
+    print_on_zero_text, read_number, reply_text, sound_text, wrong_print_text,
+};
 use page_device::{Damage, Page};
 
 // The line that a line is read as, with its LF, or no bytes where it is bad.
@@ -215,6 +218,21 @@ fn replies_with_contents(rt: HostRuntime) {
         )
     );
     assert!(rt; shows(Reply::Bytes(Page::numbered(171 << 56)), b"7 data ab\n"));
+}
+
+#[test]
+fn lines_of_actions(rt: HostRuntime) {
+    let mut text = LineBuf::new();
+    formatted_text(4, 1048576, &mut text);
+    assert_eq!(rt; text.bytes(), b"formatted blocks=4 pages=1048576\n");
+    sound_text(u64::MAX, &mut text);
+    assert_eq!(rt; text.bytes(), b"sound waste=18446744073709551615\n");
+    low_count_text(1, 0, 1, &mut text);
+    assert_eq!(rt; text.bytes(), b"lowcount 1 0 1\n");
+    wrong_print_text(1, &mut text);
+    assert_eq!(rt; text.bytes(), b"wrongprint 1\n");
+    print_on_zero_text(2, &mut text);
+    assert_eq!(rt; text.bytes(), b"printonzero 2\n");
 }
 
 #[test]

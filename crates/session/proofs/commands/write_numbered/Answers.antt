@@ -10,17 +10,17 @@ use Rattle.session.proofs.Done.{write_done, write_refused, is_range}
 use Rattle.session.proofs.commands.write_numbered.Goals as goal
 
 pub returns-in-Ok-clause-done : goal.returns-in-Ok-clause-done
-returns-in-Ok-clause-done g c = λ mode a unused sf.
+returns-in-Ok-clause-done g c = λ mode a sf.
     let d0 = g.D.Device.seen c.args.device.now in
     let d1 = g.D.Device.seen c.write.new.device in
-    write_done mode a unused c.args.store.now c.write.new.self d0 d1 c.args.block c.args.number
+    write_done mode a c.args.store.now c.write.new.self d0 d1 c.args.block c.args.number
     (λ past. cc (c.in-Ok.ensures.range past))
     (subst (λ (b : Block). StoreCall mode c.args.store.now c.write.new.self d0 d1 a (gained a c.args.block b (maps c.args.store.now.tables.shape.version b)) (writes_one c.args.block b)) c.numbered.ensures (c.in-Ok.ensures.array mode a sf))
 
 pub returns-in-Err-clause-done : goal.returns-in-Err-clause-done
-returns-in-Err-clause-done g c = λ mode a unused sf.
+returns-in-Err-clause-done g c = λ mode a sf.
     let d0 = g.D.Device.seen c.args.device.now in
     let d1 = g.D.Device.seen c.write.new.device in
-    subst (λ (r : Reply). AskedDone mode a unused (known (Write c.args.block c.args.number)) r c.args.store.now c.write.new.self d0 d1) (sym c.refused.ensures)
-    (write_refused mode a unused c.args.store.now c.write.new.self d0 d1 c.args.block c.args.number c.in-Err.why c.in-Err.ensures.cause (λ past. is_range (Err c.in-Err.why) c.in-Err.why refl (c.in-Err.ensures.range past))
+    subst (λ (r : Reply). AskedDone mode a (known (Write c.args.block c.args.number)) r c.args.store.now c.write.new.self d0 d1) (sym c.refused.ensures)
+    (write_refused mode a c.args.store.now c.write.new.self d0 d1 c.args.block c.args.number c.in-Err.why c.in-Err.ensures.cause (λ past. is_range (Err c.in-Err.why) c.in-Err.why refl (c.in-Err.ensures.range past))
     (subst (λ (b : Block). StoreCall mode c.args.store.now c.write.new.self d0 d1 a a (writes_one c.args.block b)) c.numbered.ensures (c.in-Err.ensures.array mode a sf)))

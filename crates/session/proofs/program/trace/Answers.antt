@@ -20,5 +20,5 @@ returns-in-Ok-clause-outcome g c = opened (record {
   fit = c.in-Ok.ensures.fit;
   shape = c.in-Ok.ensures.shape;
   status_is = c.serve_trace.ensures.one_of;
-  served = λ honest tells rest mode good unused. c.serve_trace.ensures.served mode _ unused (c.in-Ok.ensures.stands honest tells rest mode good);
+  served = λ honest tells rest mode good. c.serve_trace.ensures.served mode _ (c.in-Ok.ensures.stands honest tells rest mode good);
 })

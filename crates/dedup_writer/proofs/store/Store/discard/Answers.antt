@@ -19,4 +19,4 @@ returns-then-name_of-eq0-clause-array g c = λ mode a sf.
 pub returns-clause-array : goal.returns-clause-array
 returns-clause-array g c = λ mode a sf.
     discard_call mode a c.args.block c.args.self.now (g.D.Device.seen c.args.device.now) sf (omega (arith, c.if-block-shape.false, ap (λ (sh : ShapeView). sh.blocks) c.shape-2.view_is, ap (λ (sh : ShapeView). sh.blocks) c.shape.ensures))
-    c.name_one.new.self (g.D.Device.seen c.name_one.new.device) (subst (λ (v : CoreView). NamesOne c.args.block 0 v c.name_one.new.self (g.D.Device.seen c.args.device.now) (g.D.Device.seen c.name_one.new.device)) c.self.view_is c.name_one.ensures.names)
+    c.name_one.new.self (g.D.Device.seen c.name_one.new.device) c.name_one.ensures.names

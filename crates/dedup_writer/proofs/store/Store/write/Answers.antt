@@ -77,5 +77,4 @@ returns-clause-array g c = λ mode a sf.
     (c.put_data.ensures.tables ∙ ap (λ (v : CoreView). v.tables) same)
     (puts_of c.lowest_free.new.self c.args.self.now c.put_data.new.self c.in-Some.p c.args.from.now c.put_data.result d d1 same c.put_data.ensures.puts)
     (is_done c.put_data.result (sym c.if-is_err.ensures.value)) c.count_one.new.self d2 c.count_one.result c.count_one.ensures.counts
-    (is_done c.count_one.result (sym c.if-is_err-2.ensures.value)) c.name_one.new.self d3
-    (subst (λ (v : CoreView). NamesOne c.args.block c.in-Some.p v c.name_one.new.self d2 d3) c.note_name.ensures c.name_one.ensures.names))
+    (is_done c.count_one.result (sym c.if-is_err-2.ensures.value)) c.name_one.new.self d3 c.name_one.ensures.names)
