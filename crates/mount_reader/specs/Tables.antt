@@ -1,5 +1,5 @@
 -- What is read of the tables, and why the reading ends.
-use Rattle.std.specs.Prelude.{◌≡◌, ℕ, ◌+◌, ◌-◌, ◌*◌, ◌<◌, ◌≤◌, ◌==◌, List, Option, Some, None, IsSome, slice_index_or, min}
+use Rattle.std.specs.Prelude.{◌≡◌, ℕ, ◌+◌, ◌*◌, ◌<◌, ◌≤◌, ◌==◌, List, Option, Some, None, IsSome, min}
 use Rattle.page_device.specs.Block.{Block}
 use Rattle.page_device.specs.Meaning.{Meaning}
 use Rattle.page_layout.specs.Numbers.{entry_of}
@@ -10,7 +10,8 @@ use Rattle.dedup_writer.specs.Core.{map_index, count_index}
 use Rattle.dedup_writer.specs.Calls.{FaultRose}
 use Rattle.mount_reader.specs.declared.error.MountError.{MountError}
 use Rattle.mount_reader.specs.declared.error.MountError.TheVariants.{Device, NotFormatted, Damaged, NoMemory}
-use Rattle.mount_reader.specs.Looked.{Holds}
+use Rattle.image_reader.specs.Looked.{Holds}
+use Rattle.image_reader.specs.Tallies.{tally_of}
 use Rattle.mount_reader.specs.Faults.{IsFitEntry, IsFirstFrom, names_in}
 
 -- the map pages of the image, or its count pages
@@ -23,10 +24,6 @@ AreCounts shape counts image = (j : ℕ) → j < count_pages shape → page_of c
 -- how many blocks name a data page in these map pages, of the first so many blocks
 abbrev pub named_below : List Block → ℕ → ℕ → ℕ
 named_below maps p blocks = count_below (λ block. entry_of (page_of maps (map_index block)) (map_place block) == p) blocks
-
--- the tally of a data page
-abbrev pub tally_of : List ℕ → ℕ → ℕ
-tally_of tallies p = slice_index_or tallies (p - 1) 0
 
 -- the tallies are the numbers of names
 abbrev pub AreTallies : ShapeView → List ℕ → List Block → Type 0

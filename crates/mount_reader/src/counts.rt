@@ -3,12 +3,12 @@ ghost use Rattle.std.specs.Prelude.{◌≡◌, ◌≤◌, ◌<◌, ◌+◌, ◌-
 ghost use Rattle.page_layout.specs.Shape.{total, count_pages, first_count_page, first_print_page};
 ghost use Rattle.page_layout.specs.Entries.{IsEntry, IsFirstFault};
 ghost use Rattle.page_layout.specs.declared.shape.Table.TheVariants as table;
-ghost use Rattle.mount_reader.specs.Looked.{Looked, Holds};
+ghost use Rattle.image_reader.specs.Looked.{Looked, Holds};
 ghost use Rattle.mount_reader.specs.Tables.{AreCounts, AreTallies, IsEnough, ReadCause, ReadFit};
 
 use crate::MountError;
-use crate::maps::read_page;
-use crate::places::{lower, malformed_entry};
+use crate::places::lower;
+use image_reader::{malformed_entry, read_page};
 use page_device::{Damage, Device, Page};
 use page_layout::{Shape, count_entry};
 use std::alloc::Global;
@@ -67,7 +67,10 @@ pub fn read_counts<D: Device>(
         return Err(MountError::NoMemory);
     };
     for k in first..end {
-        let page = read_page(device, k)?;
+        let page = match read_page(device, k) {
+            Ok(page) => page,
+            Err(_) => return Err(MountError::Device),
+        };
         match count_fault(k, &page, shape, tallies) {
             Some(entry) => return Err(MountError::Damaged(Damage { page: k, entry })),
             None => counts.push_reserved(page),

@@ -1,33 +1,15 @@
 // The map pages are read.
 ghost use Rattle.std.specs.Prelude.{◌≡◌, ◌≤◌, ◌<◌, ◌+◌, ℕ, List, length, IfOk, IfErr};
-ghost use Rattle.page_device.specs.Block.{Block};
 ghost use Rattle.page_layout.specs.Shape.{total, map_pages, first_count_page};
 ghost use Rattle.page_layout.specs.Tables.{page_of, IsMapPage};
-ghost use Rattle.dedup_writer.specs.Calls.{FaultRose};
-ghost use Rattle.mount_reader.specs.Looked.{Looked, Holds};
+ghost use Rattle.image_reader.specs.Looked.{Looked, Holds};
 ghost use Rattle.mount_reader.specs.Tables.{AreMaps, ReadCause, ReadFit};
 
 use crate::MountError;
-use crate::places::malformed_entry;
+use image_reader::{malformed_entry, read_page};
 use page_device::{Damage, Device, Page};
 use page_layout::Shape;
 use std::alloc::Global;
-
-// One page of the device.
-pub fn read_page<D: Device>(device: &mut D, k: u32) -> Result<Page, MountError>
-    requires { k < (D.seen device.old).pages }
-    ensures looked { Looked (D.seen device.old) (D.seen device.new) }
-    ensures pages { (D.seen device.new).pages ≡ (D.seen device.old).pages }
-    ensures never_falls { (D.seen device.old).faults ≤ (D.seen device.new).faults }
-    ensures cause { IfErr result (λ why. (why ≡ MountError.Device) × FaultRose (D.seen device.old) (D.seen device.new)) }
-    ensures read { IfOk result (λ page. Holds (λ image. page_of image k ≡ page) (D.seen device.old)) }
-{
-    let mut page = Page::zero();
-    match device.read(k, &mut page) {
-        Ok(()) => Ok(page),
-        Err(_) => Err(MountError::Device),
-    }
-}
 
 // All map pages, in order; ends at the first malformed entry.
 pub fn read_maps<D: Device>(
@@ -50,7 +32,10 @@ pub fn read_maps<D: Device>(
         return Err(MountError::NoMemory);
     };
     for k in 1..end {
-        let page = read_page(device, k)?;
+        let page = match read_page(device, k) {
+            Ok(page) => page,
+            Err(_) => return Err(MountError::Device),
+        };
         match malformed_entry(k, &page, shape) {
             Some(entry) => return Err(MountError::Damaged(Damage { page: k, entry })),
             None => maps.push_reserved(page),

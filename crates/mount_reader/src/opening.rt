@@ -6,17 +6,18 @@ ghost use Rattle.page_layout.specs.Tables.{HasShape};
 ghost use Rattle.array_model.specs.Array.{array_start};
 ghost use Rattle.array_model.specs.Images.{Mode, IsFit, IsGood};
 ghost use Rattle.dedup_writer.specs.Stands.{StandsFor};
-ghost use Rattle.mount_reader.specs.Looked.{Looked, Holds};
-ghost use Rattle.mount_reader.specs.Mount.{TellsShape, MountCause, IsRefusal};
+ghost use Rattle.image_reader.specs.Looked.{Looked, Holds, TellsShape};
+ghost use Rattle.mount_reader.specs.Mount.{MountCause, IsRefusal};
 
 use crate::MountError;
 use crate::counts::read_counts;
-use crate::maps::{read_maps, read_page};
+use crate::maps::read_maps;
 use crate::prints::check_prints;
 use crate::tallies::tally;
 use dedup_writer::Store;
+use image_reader::find_shape;
 use page_device::Device;
-use page_layout::{Shape, read_super};
+use page_layout::Shape;
 use std::alloc::Global;
 
 // The shape that the superblock tells, where the device has its pages.
@@ -28,21 +29,11 @@ fn told_shape<D: Device>(device: &mut D) -> Result<Shape, MountError>
     ensures shape { IfOk result (λ shape. Holds (TellsShape shape) (D.seen device.old)) }
     ensures has_shape { IfOk result (λ _. Holds HasShape (D.seen device.old)) }
 {
-    match device.room(0) {
-        Ok(()) => {}
-        Err(_) => return Err(MountError::Device),
+    match find_shape(device) {
+        Ok(Some(shape)) => Ok(shape),
+        Ok(None) => Err(MountError::NotFormatted),
+        Err(_) => Err(MountError::Device),
     }
-    if device.pages() == 0 {
-        return Err(MountError::NotFormatted);
-    }
-    let page = read_page(device, 0)?;
-    let Ok(shape) = read_super(&page) else {
-        return Err(MountError::NotFormatted);
-    };
-    if device.pages() < shape.total() {
-        return Err(MountError::NotFormatted);
-    }
-    Ok(shape)
 }
 
 /// Opens the image that a device holds, of version 1 or 2: makes room for no page, reads page 0 and then

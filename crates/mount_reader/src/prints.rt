@@ -3,13 +3,13 @@ ghost use Rattle.std.specs.Prelude.{◌≡◌, ◌≤◌, ◌<◌, ◌+◌, ◌-
 ghost use Rattle.page_layout.specs.Shape.{total, count_pages, print_pages, first_print_page, first_data_page};
 ghost use Rattle.page_layout.specs.Entries.{IsEntry, IsFirstFault};
 ghost use Rattle.page_layout.specs.declared.shape.Table.TheVariants as table;
-ghost use Rattle.mount_reader.specs.Looked.{Looked, Holds};
+ghost use Rattle.image_reader.specs.Looked.{Looked, Holds};
 ghost use Rattle.mount_reader.specs.Tables.{AreCounts, IsBacked, ReadCause, ReadFit};
 
 use crate::MountError;
-use crate::maps::read_page;
-use crate::places::{lower, malformed_entry};
+use crate::places::lower;
 use dedup_writer::count_at;
+use image_reader::{malformed_entry, read_page};
 use page_device::{Damage, Device, Page};
 use page_layout::{Shape, print_entry};
 
@@ -60,7 +60,10 @@ pub fn check_prints<D: Device>(
     ensures fitted { IfOk result (λ _. ReadFit (first_print_page shape.now) (first_data_page shape.now) shape.now (AreCounts shape.now counts.now) (D.seen device.old)) }
 {
     for k in shape.first_print_page()..shape.first_data_page() {
-        let page = read_page(device, k)?;
+        let page = match read_page(device, k) {
+            Ok(page) => page,
+            Err(_) => return Err(MountError::Device),
+        };
         match print_fault(k, &page, shape, counts) {
             Some(entry) => return Err(MountError::Damaged(Damage { page: k, entry })),
             None => {}

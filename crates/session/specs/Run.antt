@@ -17,8 +17,7 @@ use Rattle.dedup_writer.specs.Core.{CoreView}
 use Rattle.dedup_writer.specs.Calls.{FaultRose}
 use Rattle.session.specs.declared.status.Status.{Status}
 use Rattle.session.specs.declared.status.Status.TheVariants.{Done, Usage, DeviceFault, NoMemory}
-use Rattle.mount_reader.specs.Looked.{Looked, Holds}
-use Rattle.mount_reader.specs.Mount.{TellsShape}
+use Rattle.image_reader.specs.Looked.{Looked, Holds, TellsShape}
 use Rattle.mount_reader.specs.Format.{IsNew, Formats}
 use Rattle.session.specs.Opening.{OpenCause}
 use Rattle.session.specs.Endings.{LastPut, EndsAs, Served}

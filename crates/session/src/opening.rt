@@ -6,8 +6,8 @@ ghost use Rattle.page_layout.specs.Shape.{total};
 ghost use Rattle.array_model.specs.Array.{array_start};
 ghost use Rattle.array_model.specs.Images.{Mode, IsFit, IsGood};
 ghost use Rattle.dedup_writer.specs.Stands.{StandsFor};
-ghost use Rattle.mount_reader.specs.Looked.{Looked, Holds};
-ghost use Rattle.mount_reader.specs.Mount.{TellsShape, MountCause};
+ghost use Rattle.image_reader.specs.Looked.{Looked, Holds, TellsShape};
+ghost use Rattle.mount_reader.specs.Mount.{MountCause};
 ghost use Rattle.session.specs.Opening.{OpenCause};
 
 use crate::status::Status;

@@ -4,7 +4,7 @@ ghost use Rattle.std.specs.String.{string_bytes};
 ghost use Rattle.dedup_writer.specs.Calls.{FaultRose};
 ghost use Rattle.page_device.specs.declared.error.Damage.{Damage};
 ghost use Rattle.page_layout.specs.Tables.{HasShape};
-ghost use Rattle.mount_reader.specs.Looked.{Holds};
+ghost use Rattle.image_reader.specs.Looked.{Holds};
 ghost use Rattle.mount_reader.specs.Faults.{IsFirstDamage};
 ghost use Rattle.session.specs.Reading.{TakesAll};
 ghost use Rattle.session.specs.Run.{AsksFor, IsAction, new_shape, TraceOutcome, FormatOutcome, Outcome};

@@ -6,7 +6,7 @@ use Rattle.page_layout.specs.Tables.{page_of}
 use Rattle.page_layout.specs.Entries.{IsEntry, IsFirstFault}
 use Rattle.page_layout.specs.declared.shape.Table.TheVariants.{Count}
 use Rattle.mount_reader.specs.Tables.{IsEnough, FitBetween}
-use Rattle.mount_reader.proofs.Looking.{looked_then, held_before}
+use Rattle.image_reader.proofs.Looking.{looked_then, held_before}
 use Rattle.mount_reader.proofs.Entries.{count_fit, of_count}
 use Rattle.mount_reader.proofs.Firsts.{fit_more, first_here}
 use Rattle.mount_reader.proofs.Pushed.{pushed, pushed_length}
@@ -23,7 +23,7 @@ returns-in-Some-clause-cause g c = λ honest tells are.
     let image = newest d0.state in
     let low : first_count_page shape ≤ k = omega (arith, c.loop-k.auto.k, c.first_count_page-first.ensures.place) in
     let high : k < first_print_page shape = omega (arith, c.loop-k-test.true, c.first_print_page-end.ensures.place) in
-    let read : page_of image k ≡ c.in_ok-page.page = held_before (λ (i : List Block). page_of i k ≡ c.in_ok-page.page) d0 d1 c.loop-k.invariant.looked c.in_ok-page.ensures.read honest tells in
+    let read : page_of image k ≡ c.in-Ok-read_page.page = held_before (λ (i : List Block). page_of i k ≡ c.in-Ok-read_page.page) d0 d1 c.loop-k.invariant.looked c.in-Ok-read_page.ensures.read honest tells in
     first_here (first_count_page shape) k 1024 shape image (λ i. IsEntry Count shape k (page_of image k) i × IsEnough shape tallies j (page_of image k) i) (λ i. count_fit shape image k i low high tallies are) (λ i. of_count shape image k i low high tallies are) (c.loop-k.invariant.fitted honest tells are) c.in-Some.entry
     (subst (λ (b : Block). IsFirstFault (λ i. IsEntry Count shape k b i × IsEnough shape tallies j b i) 1024 (Some c.in-Some.entry)) (sym read) c.in-Some.ensures)
 
@@ -38,27 +38,30 @@ loop-k-preserved g c =
     let j = k - first_count_page shape in
     let first = c.first_count_page-first.result in
     let inv = c.loop-k.invariant in
-    let page = c.in_ok-page.page in
+    let page = c.in-Ok-read_page.page in
     let old = c.loop-k.counts.items in
     let new = c.push_reserved.new.self.items in
     let low : first_count_page shape ≤ k = omega (arith, c.loop-k.auto.k, c.first_count_page-first.ensures.place) in
     let high : k < first_print_page shape = omega (arith, c.loop-k-test.true, c.first_print_page-end.ensures.place) in
     record {
-      looked = looked_then d0 d1 d2 inv.looked c.in_ok-page.ensures.looked;
-      pages = c.in_ok-page.ensures.pages ∙ inv.pages;
-      faults = omega (arith, inv.faults, c.in_ok-page.ensures.never_falls);
+      looked = looked_then d0 d1 d2 inv.looked c.in-Ok-read_page.ensures.looked;
+      pages = c.in-Ok-read_page.ensures.pages ∙ inv.pages;
+      faults = omega (arith, inv.faults, c.in-Ok-read_page.ensures.cause.never_falls);
       len = omega (arith, c.push_reserved.ensures.len, inv.len, c.loop-k.auto.k);
       items = omega (arith, pushed_length old new page c.push_reserved.ensures.items, inv.items, c.loop-k.auto.k);
       capacity = omega (arith, c.push_reserved.ensures.capacity, inv.capacity);
       fitted = λ honest tells are.
           let image = newest d0.state in
-          let read : page_of image k ≡ page = held_before (λ (i : List Block). page_of i k ≡ page) d0 d1 inv.looked c.in_ok-page.ensures.read honest tells in
+          let read : page_of image k ≡ page = held_before (λ (i : List Block). page_of i k ≡ page) d0 d1 inv.looked c.in-Ok-read_page.ensures.read honest tells in
           subst (λ (n : ℕ). FitBetween (first_count_page shape) n shape image) (sym (add-one k))
           (fit_more (first_count_page shape) k 1024 shape image (λ i. IsEntry Count shape k (page_of image k) i × IsEnough shape tallies j (page_of image k) i) (λ i. count_fit shape image k i low high tallies are) (λ i. of_count shape image k i low high tallies are) (inv.fitted honest tells are)
           (subst (λ (b : Block). IsFirstFault (λ i. IsEntry Count shape k b i × IsEnough shape tallies j b i) 1024 None) (sym read) c.in-None.ensures));
       read = λ honest tells.
           let image = newest d0.state in
-          let read : page_of image k ≡ page = held_before (λ (i : List Block). page_of i k ≡ page) d0 d1 inv.looked c.in_ok-page.ensures.read honest tells in
+          let read : page_of image k ≡ page = held_before (λ (i : List Block). page_of i k ≡ page) d0 d1 inv.looked c.in-Ok-read_page.ensures.read honest tells in
           let here : first + length old ≡ k = omega (arith, inv.items, c.loop-k.auto.k) in
           pushed (λ j b. b ≡ page_of image (first + j)) old new page c.push_reserved.ensures.items (inv.read honest tells) (sym read ∙ ap (page_of image) (sym here));
     }
+
+pub returns-clause-fitted : goal.returns-clause-fitted
+returns-clause-fitted g c = λ honest tells are k i low high. c.loop-k.invariant.fitted honest tells are k i low (omega (arith, high, c.loop-k-test.false, c.first_print_page-end.ensures.place))

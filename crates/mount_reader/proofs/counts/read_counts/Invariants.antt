@@ -1,7 +1,7 @@
 use Rattle.std.proofs.Common.{◌≡◌, ◌≤◌, ◌<◌, ◌+◌, ◌-◌, ℕ, length, vec_len, vec_capacity}
 use Rattle.page_layout.specs.Shape.{first_count_page}
 use Rattle.page_layout.specs.Tables.{page_of}
-use Rattle.mount_reader.specs.Looked.{Looked, Holds}
+use Rattle.image_reader.specs.Looked.{Looked, Holds}
 use Rattle.mount_reader.specs.Tables.{AreTallies, ReadFit}
 use Rattle.mount_reader.proofs.counts.read_counts.Given as goal
 

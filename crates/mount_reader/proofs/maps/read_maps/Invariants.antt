@@ -1,6 +1,6 @@
 use Rattle.std.proofs.Common.{◌≡◌, ◌≤◌, ◌<◌, ◌+◌, ◌-◌, ℕ, length, vec_len, vec_capacity}
 use Rattle.page_layout.specs.Tables.{page_of, IsMapPage}
-use Rattle.mount_reader.specs.Looked.{Looked, Holds}
+use Rattle.image_reader.specs.Looked.{Looked, Holds}
 use Rattle.mount_reader.specs.Tables.{FitBetween}
 use Rattle.mount_reader.proofs.maps.read_maps.Given as goal
 

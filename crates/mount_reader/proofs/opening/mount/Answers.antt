@@ -6,8 +6,9 @@ use Rattle.page_layout.specs.Tables.{page_of, shape_of}
 use Rattle.array_model.specs.Images.{IsGood}
 use Rattle.array_model.specs.Array.{array_start}
 use Rattle.dedup_writer.specs.Stands.{StandsFor, AreCached}
-use Rattle.mount_reader.specs.Tables.{AreMaps, AreCounts, AreTallies, FitBetween, named_below, tally_of}
-use Rattle.mount_reader.proofs.Looking.{looked_then, held_before, newest_at_rest}
+use Rattle.mount_reader.specs.Tables.{AreMaps, AreCounts, AreTallies, FitBetween, named_below}
+use Rattle.image_reader.specs.Tallies.{tally_of}
+use Rattle.image_reader.proofs.Looking.{looked_then, held_before, newest_at_rest}
 use Rattle.mount_reader.proofs.Names.{names_are}
 use Rattle.mount_reader.proofs.Fits.{fit_then, fit_super, fit_image, mount_cause}
 use Rattle.mount_reader.proofs.FitEntries.{refusal}

@@ -1,6 +1,6 @@
 use Rattle.std.proofs.Common.{◌≡◌, ◌≤◌}
 use Rattle.page_layout.specs.Shape.{first_print_page}
-use Rattle.mount_reader.specs.Looked.{Looked}
+use Rattle.image_reader.specs.Looked.{Looked}
 use Rattle.mount_reader.specs.Tables.{AreCounts, ReadFit}
 use Rattle.mount_reader.proofs.prints.check_prints.Given as goal
 

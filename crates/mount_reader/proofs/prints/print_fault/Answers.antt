@@ -3,7 +3,7 @@ use Rattle.page_layout.specs.Shape.{first_print_page}
 use Rattle.page_layout.specs.Entries.{IsEntry, IsFirstFault}
 use Rattle.page_layout.specs.declared.shape.Table.TheVariants.{Print}
 use Rattle.mount_reader.specs.Tables.{IsBacked}
-use Rattle.mount_reader.proofs.Entries.{print_table}
+use Rattle.image_reader.proofs.TablesAt.{print_table}
 use Rattle.mount_reader.proofs.Firsts.{first_of_both}
 use Rattle.mount_reader.proofs.prints.print_fault.Goals as goal
 

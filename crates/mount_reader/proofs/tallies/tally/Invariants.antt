@@ -1,5 +1,6 @@
 use Rattle.std.proofs.Common.{◌≡◌, ◌≤◌, ℕ, length}
-use Rattle.mount_reader.specs.Tables.{named_below, tally_of}
+use Rattle.mount_reader.specs.Tables.{named_below}
+use Rattle.image_reader.specs.Tallies.{tally_of}
 use Rattle.mount_reader.proofs.tallies.tally.Given as goal
 
 abbrev pub invariant-loop-block : goal.invariant-loop-block

@@ -7,7 +7,7 @@ use Rattle.page_device.specs.Meaning.{Meaning, SameKind, OneRead, IsUntouched, G
 use Rattle.page_device.proofs.Views.{state_by_none}
 use Rattle.page_layout.specs.Tables.{page_of}
 use Rattle.page_device.specs.Possible.{length-overlay}
-use Rattle.mount_reader.specs.Looked.{Looked, Holds}
+use Rattle.image_reader.specs.Looked.{Looked, Holds}
 
 same_kind : (a b c : Meaning) → SameKind a b → SameKind b c → SameKind a c
 same_kind a b c h k = record { honest = k.honest ∙ h.honest; tells_pages = k.tells_pages ∙ h.tells_pages; tells_log = k.tells_log ∙ h.tells_log; tells_reads = k.tells_reads ∙ h.tells_reads }

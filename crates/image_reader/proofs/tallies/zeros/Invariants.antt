@@ -1,5 +1,5 @@
 use Rattle.std.proofs.Common.{◌≡◌, ◌≤◌, replicate, vec_len, vec_capacity}
-use Rattle.mount_reader.proofs.tallies.zeros.Given as goal
+use Rattle.image_reader.proofs.tallies.zeros.Given as goal
 
 abbrev pub invariant-loop : goal.invariant-loop
 invariant-loop l = record {

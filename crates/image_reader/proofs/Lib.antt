@@ -1,0 +1,4 @@
+pub mod Looking
+pub mod TablesAt
+pub mod WellFormed
+pub mod Counts

@@ -1,0 +1,3 @@
+pub mod Looked
+pub mod Formed
+pub mod Tallies
