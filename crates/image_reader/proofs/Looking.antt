@@ -12,7 +12,7 @@ use Rattle.image_reader.specs.Looked.{Looked, Holds}
 same_kind : (a b c : Meaning) → SameKind a b → SameKind b c → SameKind a c
 same_kind a b c h k = record { honest = k.honest ∙ h.honest; tells_pages = k.tells_pages ∙ h.tells_pages; tells_log = k.tells_log ∙ h.tells_log; tells_reads = k.tells_reads ∙ h.tells_reads }
 
-looked_none : (d : Meaning) → Looked d d
+pub looked_none : (d : Meaning) → Looked d d
 looked_none d = record { state = λ _. refl; pages = λ _. refl; log = λ _. refl; kind = record { honest = refl; tells_pages = refl; tells_log = refl; tells_reads = refl } }
 
 pub looked_then : (a b c : Meaning) → Looked a b → Looked b c → Looked a c

@@ -1,0 +1,6 @@
+pub mod Stopped
+pub mod Malformed
+pub mod Naming
+pub mod Comparing
+pub mod Printing
+pub mod Judging

@@ -1,0 +1,34 @@
+// What a check answers.
+use page_device::Damage;
+
+/// What a check finds: the first in this order, and of one kind the first in rising pages and entries.
+#[derive(Clone, Copy, Debug, PartialEq, Eq, Drop)]
+pub enum Verdict {
+    /// The image is sound; its data pages are counted so much more often than blocks name them.
+    Sound { waste: u64 },
+    /// An entry is malformed.
+    Damaged(Damage),
+    /// A data page is counted less often than blocks name it.
+    LowCount { page: u32, stored: u32, named: u32 },
+    /// The fingerprint of a data page is not that of its content.
+    WrongPrint { page: u32 },
+    /// A data page has a fingerprint, and its count is 0.
+    PrintOnZero { page: u32 },
+}
+
+/// Why there is no verdict.
+#[derive(Clone, Copy, Debug, PartialEq, Eq, Drop)]
+pub enum CheckError {
+    /// The device counted a fault.
+    Device,
+    /// The device has no page, page 0 is no superblock, or the device has fewer pages than it tells of.
+    NotFormatted,
+    NoMemory,
+}
+
+// Why looking over an image ends early.
+#[derive(Clone, Copy, Drop)]
+pub enum Stop {
+    Device,
+    Told(Verdict),
+}
