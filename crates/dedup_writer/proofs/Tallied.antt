@@ -1,7 +1,7 @@
 -- Numbers are counted one after another.
-use Rattle.std.proofs.Common.{◌≡◌, ℕ, suc, ◌+◌, ◌*◌, ◌<◌, ◌≤◌, ◌==◌, not, if◌then◌else◌, Bool, true, false, refl, sym, ◌∙◌, ap, subst, arith, add-one}
+use Rattle.std.proofs.Common.{◌≡◌, ℕ, ◌+◌, ◌<◌, ◌≤◌, Bool, true, false, refl, sym, ap, subst, arith, add-one}
 use Rattle.array_model.specs.Counting.{count_below, sum_below}
-use Rattle.array_model.proofs.CountingLemmas.{count_below-next, count_below-most, sum_below-next, sum_below-most}
+use Rattle.array_model.proofs.CountingLemmas.{count_below-next, count_below-most, sum_below-next}
 use Rattle.dedup_writer.specs.Whole.{one_if}
 
 one_at_most : (b : Bool) → one_if b ≤ 1

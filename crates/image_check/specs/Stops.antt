@@ -16,5 +16,5 @@ StopCause shape known Device old new = CheckCause error.Device old new
 StopCause shape known (Told verdict) old new = Holds (λ image. HasShape image → shape_of image ≡ shape → known image → IsVerdict verdict image) old
 
 -- nothing was known
-abbrev pub Known : List Block → Type 0
-Known image = Unit {0}
+abbrev pub NothingKnown : List Block → Type 0
+NothingKnown image = Unit {0}

@@ -6,7 +6,7 @@ ghost use Rattle.array_model.specs.Counting.{mapped_of};
 ghost use Rattle.page_layout.specs.Tables.{map_of};
 ghost use Rattle.image_reader.specs.Looked.{Looked, Holds};
 ghost use Rattle.image_check.specs.Steps.{IsReady};
-ghost use Rattle.image_check.specs.Stops.{StopCause, Known};
+ghost use Rattle.image_check.specs.Stops.{StopCause, NothingKnown};
 ghost use Rattle.image_check.specs.Verdicts.{IsVerdict, CheckCause, IsUnsound};
 
 use crate::counts::{compare_counts, sum_of};
@@ -52,7 +52,7 @@ fn look_over<D: Device>(
     requires zeros { tallies.old.items ≡ replicate shape.now.pages 0 }
     ensures looked { Looked (D.seen device.old) (D.seen device.new) }
     ensures never_falls { (D.seen device.old).faults ≤ (D.seen device.new).faults }
-    ensures cause { IfErr result (λ stop. StopCause shape.now Known stop (D.seen device.old) (D.seen device.new)) }
+    ensures cause { IfErr result (λ stop. StopCause shape.now NothingKnown stop (D.seen device.old) (D.seen device.new)) }
     ensures verdict { IfOk result (λ verdict. Holds (λ image. HasShape image → shape_of image ≡ shape.now → IsVerdict verdict image) (D.seen device.old)) }
 {
     let mapped = match tally_maps(device, shape, tallies) {

@@ -6,13 +6,13 @@ use page_device::Damage;
 pub enum Verdict {
     /// The image is sound; its data pages are counted so much more often than blocks name them.
     Sound { waste: u64 },
-    /// An entry is malformed.
+    /// This entry is malformed. Its page is a page of the device.
     Damaged(Damage),
-    /// A data page is counted less often than blocks name it.
+    /// The stored count of this data page, counted from 1, is below the number of blocks that name it.
     LowCount { page: u32, stored: u32, named: u32 },
-    /// The fingerprint of a data page is not that of its content.
+    /// The fingerprint of this data page, counted from 1, is not that of its content.
     WrongPrint { page: u32 },
-    /// A data page has a fingerprint, and its count is 0.
+    /// This data page, counted from 1, has a fingerprint, and its count is 0.
     PrintOnZero { page: u32 },
 }
 

@@ -1,5 +1,6 @@
 //! The program. `omd_tool IMAGE trace` is a session of the trace language over an image, which is a file
-//! or a block device node; `omd_tool IMAGE format --blocks L --pages N` makes a new image.
+//! or a block device node; `omd_tool IMAGE format --blocks L --pages N` makes a new image, and
+//! `omd_tool IMAGE check` tells whether it is sound.
 //!
 //! Commands come from standard input, replies go to standard output, and the exit status says how the
 //! session ended (`docs/ARCHITECTURE.md`).
@@ -22,22 +23,37 @@ fn rest(alloc: Global, words: env::Args) -> Result<Vec<String>, AllocError> {
     Ok(list)
 }
 
-fn main(rt: HostRuntime) -> io::Result<ExitCode> {
-    let mut words = env::args(&rt)?;
+// How the program ends where its words can't be read: one that is not UTF-8 is no word of its grammar.
+fn unread(why: &io::Error) -> Status {
+    match why.kind() {
+        io::ErrorKind::OutOfMemory => Status::NoMemory,
+        _ => Status::Usage,
+    }
+}
+
+// The words: the program's name, the path of the image, and those that `run` takes.
+fn run_words(rt: &HostRuntime, words: env::Args) -> Status {
+    let mut words = words;
     let _program = words.next();
     let Some(path) = words.next() else {
-        eprintln!(rt; "{USAGE}")?;
-        return Ok(ExitCode::from(Status::Usage.number()));
+        return Status::Usage;
     };
     let Ok(words) = rest(rt.alloc(), words) else {
-        return Ok(ExitCode::from(Status::NoMemory.number()));
+        return Status::NoMemory;
     };
-    let mut device = FileDevice::named(&rt, path);
+    let mut device = FileDevice::named(rt, path);
     let mut source = StdSource::new(rt.stdin());
     let mut sink = StdSink::new(rt.stdout());
-    let status = run(rt.alloc(), &words, &mut source, &mut sink, &mut device);
+    run(rt.alloc(), &words, &mut source, &mut sink, &mut device)
+}
+
+fn main(rt: HostRuntime) -> ExitCode {
+    let status = match env::args(&rt) {
+        Ok(words) => run_words(&rt, words),
+        Err(why) => unread(&why),
+    };
     if status == Status::Usage {
-        eprintln!(rt; "{USAGE}")?;
+        let _ = eprintln!(rt; "{USAGE}");
     }
-    Ok(ExitCode::from(status.number()))
+    ExitCode::from(status.number())
 }

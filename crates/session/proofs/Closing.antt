@@ -9,7 +9,7 @@ use Rattle.array_model.specs.Turns.{Work, closing, works_of, survives}
 use Rattle.dedup_writer.specs.Core.{CoreView}
 use Rattle.dedup_writer.specs.Calls.{StoreCall}
 use Rattle.session.specs.declared.status.Status.{Status}
-use Rattle.session.specs.declared.status.Status.TheVariants.{Done, Usage, SourceFault, SinkFault, DeviceFault, NotFormatted, Damaged, NoMemory, InputLimit}
+use Rattle.session.specs.declared.status.Status.TheVariants.{Done, Usage, SourceFault, SinkFault, DeviceFault, NotFormatted, Damaged, LowCount, WrongPrint, PrintOnZero, NoMemory, InputLimit}
 use Rattle.session.specs.Session.{Start, start_rules, array_done, SoFarWith, CutShort}
 use Rattle.session.specs.Endings.{AllAnswered, LastPut, SomeRead, TextCut, Ended, all_done, closing_failed, sink_failed, Closed, ClosesAs, EndsAs, Served}
 use Rattle.session.proofs.More.{did_more}
@@ -68,6 +68,9 @@ closes_then InputLimit h = absurd h
 closes_then Usage h = absurd h
 closes_then NotFormatted h = absurd h
 closes_then (Damaged damage) h = absurd h
+closes_then (LowCount page stored named) h = absurd h
+closes_then (WrongPrint page) h = absurd h
+closes_then (PrintOnZero page) h = absurd h
 closes_then NoMemory h = absurd h
 
 module _ (s : Start) (status : Status) (core : CoreView) (d : Meaning) (source source' : SourceMeaning) (sink : SinkMeaning) where

@@ -26,10 +26,14 @@ abbrev pub RestAnswered : {E : Type 0} → Result Unit E → Start → List ℕ 
 RestAnswered (Ok _) s bytes core d sink = AllAnswered s bytes core d sink
 RestAnswered (Err _) s bytes core d sink = CutShort s bytes core d sink
 
--- the last line of a status was put whole; or a part of it, and the status is the sink's
-pub data LastPut (wanted status : Status) (old new : SinkMeaning) : Type 0 where
-  put_whole : status ≡ wanted → Takes (last_text wanted) old new → LastPut wanted status old new
-  put_part : status ≡ SinkFault → TakesFront (last_text wanted) old new → LastPut wanted status old new
+-- a line was put whole, and the status is the one that was wanted; or a part of it, and the status is the sink's
+pub data LinePut (text : List ℕ) (wanted status : Status) (old new : SinkMeaning) : Type 0 where
+  put_whole : status ≡ wanted → Takes text old new → LinePut text wanted status old new
+  put_part : status ≡ SinkFault → TakesFront text old new → LinePut text wanted status old new
+
+-- so it was with the last line of a status
+abbrev pub LastPut : Status → Status → SinkMeaning → SinkMeaning → Type 0
+LastPut wanted status old new = LinePut (last_text wanted) wanted status old new
 
 -- the texts of the turns were put, and then the last line
 pub record TextsPut (wanted status : Status) (turns : List Turn) (old new : SinkMeaning) : Type 0 where

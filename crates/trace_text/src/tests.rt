@@ -224,15 +224,21 @@ fn replies_with_contents(rt: HostRuntime) {
 fn lines_of_actions(rt: HostRuntime) {
     let mut text = LineBuf::new();
     formatted_text(4, 1048576, &mut text);
-    assert_eq!(rt; text.bytes(), b"formatted blocks=4 pages=1048576\n");
+    assert_eq!(rt;
+        text.bytes(),
+        b"formatted blocks=4 pages=1048576\n".as_slice()
+    );
     sound_text(u64::MAX, &mut text);
-    assert_eq!(rt; text.bytes(), b"sound waste=18446744073709551615\n");
+    assert_eq!(rt;
+        text.bytes(),
+        b"sound waste=18446744073709551615\n".as_slice()
+    );
     low_count_text(1, 0, 1, &mut text);
-    assert_eq!(rt; text.bytes(), b"lowcount 1 0 1\n");
+    assert_eq!(rt; text.bytes(), b"lowcount 1 0 1\n".as_slice());
     wrong_print_text(1, &mut text);
-    assert_eq!(rt; text.bytes(), b"wrongprint 1\n");
+    assert_eq!(rt; text.bytes(), b"wrongprint 1\n".as_slice());
     print_on_zero_text(2, &mut text);
-    assert_eq!(rt; text.bytes(), b"printonzero 2\n");
+    assert_eq!(rt; text.bytes(), b"printonzero 2\n".as_slice());
 }
 
 #[test]

@@ -1,4 +1,4 @@
-use Rattle.std.proofs.Common.{◌≡◌, ℕ, ◌==◌, not, ap, arith}
+use Rattle.std.proofs.Common.{ℕ, ◌==◌, not, ap, arith}
 use Rattle.page_layout.specs.Numbers.{entry_of}
 use Rattle.page_layout.specs.Shape.{map_place}
 use Rattle.page_layout.specs.Tables.{page_of}

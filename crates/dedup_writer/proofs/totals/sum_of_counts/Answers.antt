@@ -1,4 +1,4 @@
-use Rattle.std.proofs.Common.{◌≡◌, ⊎_elim, ℕ, ◌+◌, ◌*◌, ◌≤◌, ◌<◌, sym, ◌∙◌, ap, arith}
+use Rattle.std.proofs.Common.{⊎_elim, ℕ, ◌+◌, ◌∙◌, ap, arith}
 use Rattle.std.proofs.lemmas.Bool.{cases_eq}
 use Rattle.page_layout.specs.Numbers.{entry_of}
 use Rattle.page_layout.specs.Shape.{count_place}

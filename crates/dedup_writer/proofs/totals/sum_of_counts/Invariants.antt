@@ -1,10 +1,9 @@
-use Rattle.std.proofs.Common.{◌≡◌, ℕ, ◌+◌, ◌*◌, ◌<◌, ◌≤◌, List}
-use Rattle.page_device.specs.Block.{Block}
-use Rattle.array_model.specs.Counting.{counted_of, live_of, mapped_of}
+use Rattle.std.proofs.Common.{◌≡◌, ℕ, ◌+◌, ◌*◌, ◌<◌, ◌≤◌}
+use Rattle.array_model.specs.Counting.{counted_of}
 use Rattle.page_layout.specs.Numbers.{entry_of}
-use Rattle.page_layout.specs.Shape.{map_place, count_place}
+use Rattle.page_layout.specs.Shape.{count_place}
 use Rattle.page_layout.specs.Tables.{page_of}
-use Rattle.dedup_writer.specs.Core.{map_index, count_index}
+use Rattle.dedup_writer.specs.Core.{count_index}
 use Rattle.dedup_writer.proofs.totals.sum_of_counts.Given as goal
 
 abbrev pub invariant-loop-k : goal.invariant-loop-k

@@ -6,7 +6,7 @@ use Rattle.image_reader.specs.Looked.{Holds, TellsShape}
 use Rattle.image_reader.proofs.Looking.{held_before}
 use Rattle.image_check.specs.declared.verdict.Stop.{Stop}
 use Rattle.image_check.specs.Verdicts.{IsVerdict}
-use Rattle.image_check.specs.Stops.{StopCause, Known}
+use Rattle.image_check.specs.Stops.{StopCause, NothingKnown}
 use Rattle.image_check.proofs.Judging.{unsound}
 use Rattle.image_check.proofs.checking.check.Goals as goal
 
@@ -31,5 +31,5 @@ returns-in-Err-Told-clause-unsound g c =
     let has : Holds HasShape d0 = subst (λ (o : Option ShapeView). IfSome o (λ _. Holds HasShape d0)) c.in-Ok-Some.field-0-is found.has_shape in
     let tells_it : Holds (TellsShape shape) d0 = subst (λ (o : Option ShapeView). IfSome o (λ s. Holds (TellsShape s) d0)) c.in-Ok-Some.field-0-is found.shape in
     let verdict = c.in-Err-Told.verdict in
-    let told = subst (λ (s : Stop). StopCause shape Known s d1 d2) c.in-Err-Told.field-0-is c.in-Err-Told.ensures.cause in
-    unsound verdict d0 (λ honest tells. held_before (λ (i : List Block). HasShape i → shape_of i ≡ shape → Known i → IsVerdict verdict i) d0 d1 found.looked told honest tells (has honest tells) (tells_it honest tells).is tt)
+    let told = subst (λ (s : Stop). StopCause shape NothingKnown s d1 d2) c.in-Err-Told.field-0-is c.in-Err-Told.ensures.cause in
+    unsound verdict d0 (λ honest tells. held_before (λ (i : List Block). HasShape i → shape_of i ≡ shape → NothingKnown i → IsVerdict verdict i) d0 d1 found.looked told honest tells (has honest tells) (tells_it honest tells).is tt)

@@ -7,7 +7,7 @@ use Rattle.array_model.specs.Counting.{mapped_of}
 use Rattle.image_reader.proofs.Looking.{looked_then, held_before}
 use Rattle.image_check.specs.Verdicts.{IsVerdict}
 use Rattle.image_reader.specs.Looked.{Holds}
-use Rattle.image_check.specs.Stops.{StopCause, Known}
+use Rattle.image_check.specs.Stops.{StopCause, NothingKnown}
 use Rattle.image_check.specs.Steps.{FormedBelow, NamesAre, CountsTo, LowTo, IsReady}
 use Rattle.image_check.proofs.Stopped.{stop_before, if_err, if_ok}
 use Rattle.image_check.proofs.Malformed.{formed_super}
@@ -21,7 +21,7 @@ returns-in-Err-compare_counts-clause-cause g c =
     let d2 = g.D.Device.seen c.compare_counts.new.device in
     let shape = c.args.shape.now in
     let maps = c.in-Ok.ensures in
-    stop_before shape Known (FormedBelow (first_count_page shape) shape) d0 d1 d2 maps.looked maps.never_falls c.in-Err-compare_counts.ensures.never_falls
+    stop_before shape NothingKnown (FormedBelow (first_count_page shape) shape) d0 d1 d2 maps.looked maps.never_falls c.in-Err-compare_counts.ensures.never_falls
     (λ honest tells _ _ _. maps.formed honest tells (formed_super shape (newest d0.state))) c.in-Err-compare_counts.stop c.in-Err-compare_counts.ensures.cause
 
 pub returns-in-Err-look_at_prints-clause-cause : goal.returns-in-Err-look_at_prints-clause-cause
@@ -33,7 +33,7 @@ returns-in-Err-look_at_prints-clause-cause g c =
     let shape = c.args.shape.now in
     let maps = c.in-Ok.ensures in
     let counts = c.in-Ok-compare_counts.ensures in
-    stop_before shape Known (FormedBelow (first_print_page shape) shape) d0 d2 d3 (looked_then d0 d1 d2 maps.looked counts.looked) (omega (arith, maps.never_falls, counts.never_falls)) c.in-Err-look_at_prints.ensures.never_falls
+    stop_before shape NothingKnown (FormedBelow (first_print_page shape) shape) d0 d2 d3 (looked_then d0 d1 d2 maps.looked counts.looked) (omega (arith, maps.never_falls, counts.never_falls)) c.in-Err-look_at_prints.ensures.never_falls
     (λ honest tells _ _ _. held_before (λ (i : List Block). FormedBelow (first_count_page shape) shape i → FormedBelow (first_print_page shape) shape i) d0 d1 maps.looked counts.formed honest tells (maps.formed honest tells (formed_super shape (newest d0.state))))
     c.in-Err-look_at_prints.stop c.in-Err-look_at_prints.ensures.cause
 
@@ -69,8 +69,8 @@ returns-in-None-clause-cause g c =
     let prints = c.in-Ok-look_at_prints.ensures in
     let looked2 = looked_then d0 d1 d2 maps.looked counts.looked in
     let looked3 = looked_then d0 d2 d3 looked2 prints.looked in
-    if_err c.judge.result (λ stop. StopCause shape (IsReady shape c.deref.result.now) stop d3 d4) (λ stop. StopCause shape Known stop d0 d4)
-    (λ stop h. stop_before shape Known (IsReady shape c.deref.result.now) d0 d3 d4 looked3 (omega (arith, maps.never_falls, counts.never_falls, prints.never_falls)) c.judge.ensures.never_falls
+    if_err c.judge.result (λ stop. StopCause shape (IsReady shape c.deref.result.now) stop d3 d4) (λ stop. StopCause shape NothingKnown stop d0 d4)
+    (λ stop h. stop_before shape NothingKnown (IsReady shape c.deref.result.now) d0 d3 d4 looked3 (omega (arith, maps.never_falls, counts.never_falls, prints.never_falls)) c.judge.ensures.never_falls
     (λ honest tells has told _.
     let below = held_before (λ (i : List Block). FormedBelow (first_print_page shape) shape i → FormedBelow (first_data_page shape) shape i) d0 d2 looked2 prints.formed honest tells
     (held_before (λ (i : List Block). FormedBelow (first_count_page shape) shape i → FormedBelow (first_print_page shape) shape i) d0 d1 maps.looked counts.formed honest tells (maps.formed honest tells (formed_super shape image))) in

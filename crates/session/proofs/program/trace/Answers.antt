@@ -7,12 +7,12 @@ pub returns-in-Ok-clause-device_cause : goal.returns-in-Ok-clause-device_cause
 returns-in-Ok-clause-device_cause g c = λ is few. ⊎_elim
     (λ risen. omega (arith, risen, c.serve_trace.ensures.never_falls))
     (λ still. omega (arith, still, c.in-Ok.ensures.never_falls, c.serve_trace.ensures.device_cause is (omega (arith, still, few, c.in-Ok.ensures.never_falls))))
-    (cases_lt (g.D.Device.seen c.args.device.now).faults (g.D.Device.seen c.open.new.device).faults)
+    (cases_lt (g.D.Device.seen c.args.device.now).faults (g.D.Device.seen c.mount.new.device).faults)
 
 pub returns-in-Ok-clause-outcome : goal.returns-in-Ok-clause-outcome
 returns-in-Ok-clause-outcome g c = opened (record {
   store = c.in-Ok.store;
-  begun = g.D.Device.seen c.open.new.device;
+  begun = g.D.Device.seen c.mount.new.device;
   core = c.serve_trace.new.store;
   looked = c.in-Ok.ensures.looked;
   faults = c.in-Ok.ensures.never_falls;

@@ -1,4 +1,4 @@
-use Rattle.std.proofs.Common.{◌≡◌, ℕ, ◌+◌, ◌-◌, ◌<◌, ◌≤◌, List, length, sym, ◌∙◌, ap, subst, arith, slice_set, get_or}
+use Rattle.std.proofs.Common.{◌≡◌, ℕ, ◌-◌, ◌<◌, ◌≤◌, List, length, sym, ◌∙◌, ap, subst, arith, slice_set, get_or}
 use Rattle.page_device.specs.Block.{Block}
 use Rattle.page_layout.specs.Numbers.{SetsEntry}
 use Rattle.page_layout.specs.Shape.{count_place}
