@@ -114,3 +114,22 @@ count_below-most t (suc n) = by (t n) (count_below-most t n)
 pub count_below-next : (t : ℕ → Bool) (n : ℕ) → count_below t (suc n) ≡ (if t n then 1 else 0) + count_below t n
 unfolding count_below
 count_below-next t n = refl
+
+-- what passes the same has the same count
+pub count_below-same : (t u : ℕ → Bool) (n : ℕ) → ((k : ℕ) → k < n → t k ≡ u k) → count_below t n ≡ count_below u n
+count_below-same t u n h = omega (arith, count_below-more t u n (λ k lt is. sym (h k lt) ∙ is), count_below-more u t n (λ k lt is. h k lt ∙ is))
+
+-- a bound in two parts
+pub sum_below-parts : (f : ℕ → ℕ) (m n : ℕ) → sum_below f (m + n) ≡ sum_below f m + sum_below (λ k. f (m + k)) n
+unfolding sum_below
+sum_below-parts f m zero = let e : m + 0 ≡ m = omega arith in rw e (omega arith)
+sum_below-parts f m (suc n) = let e : m + suc n ≡ suc (m + n) = omega arith in rw e (omega (arith, sum_below-parts f m n))
+
+pub count_below-parts : (t : ℕ → Bool) (m n : ℕ) → count_below t (m + n) ≡ count_below t m + count_below (λ k. t (m + k)) n
+count_below-parts t m n = omega (
+  arith,
+  count_below-sum t (m + n),
+  count_below-sum t m,
+  count_below-sum (λ k. t (m + k)) n,
+  sum_below-parts (λ k. if t k then 1 else 0) m n,
+)

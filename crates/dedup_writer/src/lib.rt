@@ -9,4 +9,5 @@ mod put;
 mod store;
 mod totals;
 
-pub use store::{Refusal, Store, count_at, name_at};
+pub use store::{Refusal, Store, count_at};
+pub use totals::used_entries;

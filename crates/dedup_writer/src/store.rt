@@ -13,6 +13,7 @@ ghost use Rattle.array_model.specs.Array.{BlockArray, array_start, last, maps, w
 
 use crate::put::put;
 use crate::totals::{Totals, opened};
+use array_model::is_zero;
 use page_device::{Damage, Device, Failed, NoMemory, Page};
 use page_layout::{Shape, count_entry, map_entry, set_count_entry, set_map_entry};
 use std::alloc::Global;
@@ -80,9 +81,9 @@ fn no_flags(alloc: Global, n: u32) -> Result<Vec<bool>, NoMemory>
     Ok(flags)
 }
 
-/// The map entry of a block in these map pages, which are all of them, in order: the data page that it
-/// names, or 0. Constant.
-pub fn name_at(shape: &Shape, maps: &[Page], block: u32) -> u32
+// The map entry of a block in these map pages, which are all of them, in order: the data page that it
+// names, or 0.
+fn name_at(shape: &Shape, maps: &[Page], block: u32) -> u32
     requires block { block < shape.now.blocks }
     requires pages { length maps.now ≡ map_pages shape.now }
     ensures { result ≡ entry_of (page_of maps.now (map_index block)) (map_place block) }
@@ -102,14 +103,6 @@ pub fn count_at(shape: &Shape, counts: &[Page], p: u32) -> u32
     count_entry(&counts[(page - shape.first_count_page()) as usize], entry)
 }
 
-// Each byte is zero.
-fn is_zero(page: &Page) -> bool
-    ensures zero { IsTrue result ↔ (page.now ≡ zero_block) }
-    ensures whole { length page.now ≡ 4096 }
-{
-    page.0 == [0; 4096]
-}
-
 // Whether a write of this content maps its block: in version 2 a write of zeros does not.
 fn maps_block(shape: &Shape, from: &Page) -> bool
     ensures maps { result ≡ maps shape.now.version from.now }
@@ -119,7 +112,7 @@ fn maps_block(shape: &Shape, from: &Page) -> bool
 }
 
 // The number of map pages.
-fn number_of_map_pages(shape: &Shape) -> u32
+pub fn number_of_map_pages(shape: &Shape) -> u32
     ensures pages { result ≡ map_pages shape.now }
     ensures valid { IsValid shape.now }
 {

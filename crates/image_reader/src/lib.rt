@@ -11,5 +11,5 @@ mod tallies;
 mod tests;
 
 pub use entries::malformed_entry;
-pub use reading::{find_shape, read_page};
-pub use tallies::{count_name, zeros};
+pub use reading::{find_shape, read_into, read_page};
+pub use tallies::{count_name, count_names, zeros};

@@ -1,5 +1,5 @@
 // A device is looked at.
-ghost use Rattle.std.specs.Prelude.{◌≡◌, ◌≤◌, ◌<◌, IfOk, IfNone, IfSome};
+ghost use Rattle.std.specs.Prelude.{◌≡◌, ◌≤◌, ◌<◌, IfOk, OnOk, IfNone, IfSome};
 ghost use Rattle.page_device.specs.Meaning.{HasCause};
 ghost use Rattle.page_layout.specs.Shape.{total};
 ghost use Rattle.page_layout.specs.Tables.{page_of, HasShape};
@@ -7,6 +7,18 @@ ghost use Rattle.image_reader.specs.Looked.{Looked, Holds, TellsShape};
 
 use page_device::{Device, Failed, Page};
 use page_layout::{Shape, read_super};
+
+/// Reads one page of a device, from 0 and below its number of pages, into a page. Answers `Failed` where
+/// the device does, which has then counted a fault; then nothing is known of `into`. One read.
+pub fn read_into<D: Device>(device: &mut D, k: u32, into: &mut Page) -> Result<(), Failed>
+    requires { k < (D.seen device.old).pages }
+    ensures cause { HasCause result (D.seen device.old) (D.seen device.new) }
+    ensures looked { Looked (D.seen device.old) (D.seen device.new) }
+    ensures pages { (D.seen device.new).pages ≡ (D.seen device.old).pages }
+    ensures read { OnOk result (Holds (λ image. page_of image k ≡ into.new) (D.seen device.old)) }
+{
+    device.read(k, into)
+}
 
 /// The content of one page of a device, from 0 and below its number of pages. Answers `Failed` where the
 /// device does, which has then counted a fault. One read.
@@ -18,7 +30,7 @@ pub fn read_page<D: Device>(device: &mut D, k: u32) -> Result<Page, Failed>
     ensures read { IfOk result (λ page. Holds (λ image. page_of image k ≡ page) (D.seen device.old)) }
 {
     let mut page = Page::zero();
-    match device.read(k, &mut page) {
+    match read_into(device, k, &mut page) {
         Ok(()) => Ok(page),
         Err(failed) => Err(failed),
     }

@@ -1,8 +1,12 @@
 // One number for each data page.
-ghost use Rattle.std.specs.Prelude.{◌≡◌, ◌≤◌, ◌<◌, ◌+◌, ℕ, length, replicate, IfOk};
+ghost use Rattle.std.specs.Prelude.{◌≡◌, ◌≤◌, ◌<◌, ◌+◌, ◌==◌, ℕ, length, replicate, IfOk};
+ghost use Rattle.page_layout.specs.Numbers.{entry_of};
+ghost use Rattle.array_model.specs.Counting.{count_below};
 ghost use Rattle.image_reader.specs.Tallies.{tally_of};
 
-use page_device::NoMemory;
+use array_model::is_zero;
+use page_device::{NoMemory, Page};
+use page_layout::map_entry;
 use std::alloc::Global;
 
 /// So many zeros: a tally for each data page before any name is counted. Takes 4 bytes for each, and
@@ -30,5 +34,22 @@ pub fn count_name(tallies: &mut Vec<u32>, p: u32)
     if p != 0 {
         let at = p as usize - 1;
         tallies[at] = tallies[at].saturating_add(1);
+    }
+}
+
+/// Counts the names in the first entries of a map page, each as `count_name` does. A page of zeros, which
+/// names nothing, is passed at once. Linear in the page.
+pub fn count_names(tallies: &mut Vec<u32>, page: &Page, used: u32)
+    requires used { used ≤ 1024 }
+    requires within { (i : ℕ) → i < used → entry_of page.now i ≤ length tallies.old.items }
+    ensures length { length tallies.new.items ≡ length tallies.old.items }
+    ensures names { (p : ℕ) → 1 ≤ p → tally_of tallies.old.items p + used ≤ 4294967295
+        → tally_of tallies.new.items p ≡ tally_of tallies.old.items p + count_below (λ i. entry_of page.now i == p) used }
+{
+    if is_zero(page) {
+        return;
+    }
+    for i in 0..used {
+        count_name(tallies, map_entry(page, i));
     }
 }

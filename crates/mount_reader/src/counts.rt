@@ -1,17 +1,35 @@
 // The count pages are read.
-ghost use Rattle.std.specs.Prelude.{◌≡◌, ◌≤◌, ◌<◌, ◌+◌, ◌-◌, ◌*◌, ℕ, length, IfOk, IfErr};
+ghost use Rattle.std.specs.Prelude.{◌≡◌, ◌≤◌, ◌<◌, ◌+◌, ◌-◌, ◌*◌, ℕ, true, length, IfOk, IfErr};
 ghost use Rattle.page_layout.specs.Shape.{total, count_pages, first_count_page, first_print_page};
 ghost use Rattle.page_layout.specs.Entries.{IsEntry, IsFirstFault};
 ghost use Rattle.page_layout.specs.declared.shape.Table.TheVariants as table;
 ghost use Rattle.image_reader.specs.Looked.{Looked, Holds};
+ghost use Rattle.image_reader.specs.Tallies.{tally_of};
 ghost use Rattle.mount_reader.specs.Tables.{AreCounts, AreTallies, IsEnough, ReadCause, ReadFit};
 
 use crate::MountError;
+use crate::pages::read_behind;
 use crate::places::lower;
-use image_reader::{malformed_entry, read_page};
+use dedup_writer::used_entries;
+use image_reader::malformed_entry;
 use page_device::{Damage, Device, Page};
 use page_layout::{Shape, count_entry};
 use std::alloc::Global;
+
+// No data page has a name whose count stands in the count page `j`, counted from 0.
+fn none_named(j: u32, shape: &Shape, tallies: &[u32]) -> bool
+    requires page { j < count_pages shape.now }
+    requires tallies { length tallies.now ≡ shape.now.pages }
+    ensures { result ≡ true → (i : ℕ) → i < 1024 → 1024 * j + i < shape.now.pages → tally_of tallies.now (1024 * j + i + 1) ≡ 0 }
+{
+    let used = used_entries(shape.pages, j);
+    let before = 1024 * j;
+    let mut some = 0;
+    for i in 0..used {
+        some |= tallies[(before + i) as usize];
+    }
+    some == 0
+}
 
 // The first entry of a count page, counted from 0, that is below its tally.
 fn low_count(j: u32, page: &Page, shape: &Shape, tallies: &[u32]) -> Option<u32>
@@ -19,6 +37,9 @@ fn low_count(j: u32, page: &Page, shape: &Shape, tallies: &[u32]) -> Option<u32>
     requires tallies { length tallies.now ≡ shape.now.pages }
     ensures { IsFirstFault (IsEnough shape.now tallies.now j page.now) 1024 result }
 {
+    if none_named(j, shape, tallies) {
+        return None;
+    }
     let pages = shape.pages;
     let before = 1024 * j;
     for i in 0..1024 {
@@ -67,13 +88,13 @@ pub fn read_counts<D: Device>(
         return Err(MountError::NoMemory);
     };
     for k in first..end {
-        let page = match read_page(device, k) {
-            Ok(page) => page,
+        match read_behind(device, k, &mut counts) {
+            Ok(()) => {}
             Err(_) => return Err(MountError::Device),
-        };
-        match count_fault(k, &page, shape, tallies) {
+        }
+        match count_fault(k, &counts[(k - first) as usize], shape, tallies) {
             Some(entry) => return Err(MountError::Damaged(Damage { page: k, entry })),
-            None => counts.push_reserved(page),
+            None => {}
         }
     }
     Ok(counts)

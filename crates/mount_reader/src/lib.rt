@@ -10,6 +10,7 @@ mod error;
 mod formatting;
 mod maps;
 mod opening;
+mod pages;
 mod places;
 mod prints;
 mod tallies;

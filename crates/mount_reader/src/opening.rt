@@ -13,9 +13,8 @@ use crate::MountError;
 use crate::counts::read_counts;
 use crate::maps::read_maps;
 use crate::prints::check_prints;
-use crate::tallies::tally;
 use dedup_writer::Store;
-use image_reader::find_shape;
+use image_reader::{find_shape, zeros};
 use page_device::Device;
 use page_layout::Shape;
 use std::alloc::Global;
@@ -58,12 +57,12 @@ pub fn mount<D: Device>(alloc: Global, device: &mut D) -> Result<Store, MountErr
         Ok(shape) => shape,
         Err(why) => return Err(why),
     };
-    let maps = match read_maps(alloc, device, &shape) {
+    let Ok(mut tallies) = zeros(alloc, shape.pages) else {
+        return Err(MountError::NoMemory);
+    };
+    let maps = match read_maps(alloc, device, &shape, &mut tallies) {
         Ok(maps) => maps,
         Err(why) => return Err(why),
-    };
-    let Ok(tallies) = tally(alloc, &shape, &maps) else {
-        return Err(MountError::NoMemory);
     };
     let counts = match read_counts(alloc, device, &shape, &tallies) {
         Ok(counts) => counts,

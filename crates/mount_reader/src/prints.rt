@@ -8,8 +8,9 @@ ghost use Rattle.mount_reader.specs.Tables.{AreCounts, IsBacked, ReadCause, Read
 
 use crate::MountError;
 use crate::places::lower;
+use array_model::is_zero;
 use dedup_writer::count_at;
-use image_reader::{malformed_entry, read_page};
+use image_reader::{malformed_entry, read_into};
 use page_device::{Damage, Device, Page};
 use page_layout::{Shape, print_entry};
 
@@ -30,13 +31,16 @@ fn loose_print(j: u32, page: &Page, shape: &Shape, counts: &[Page]) -> Option<u3
     None
 }
 
-// The first entry of a print page that no fit image has.
+// The first entry of a print page that no fit image has. A page of zeros is passed at once.
 fn print_fault(k: u32, page: &Page, shape: &Shape, counts: &[Page]) -> Option<u32>
     requires first { first_print_page shape.now ≤ k }
     requires last { k < first_data_page shape.now }
     requires counts { length counts.now ≡ count_pages shape.now }
     ensures { IsFirstFault (λ i. IsEntry table.Print shape.now k page.now i × IsBacked shape.now counts.now (k - first_print_page shape.now) page.now i) 171 result }
 {
+    if is_zero(page) {
+        return None;
+    }
     let malformed = malformed_entry(k, page, shape);
     lower(
         malformed,
@@ -59,11 +63,12 @@ pub fn check_prints<D: Device>(
     ensures cause { IfErr result (λ why. ReadCause (first_print_page shape.now) shape.now (AreCounts shape.now counts.now) why (D.seen device.old) (D.seen device.new)) }
     ensures fitted { IfOk result (λ _. ReadFit (first_print_page shape.now) (first_data_page shape.now) shape.now (AreCounts shape.now counts.now) (D.seen device.old)) }
 {
+    let mut page = Page::zero();
     for k in shape.first_print_page()..shape.first_data_page() {
-        let page = match read_page(device, k) {
-            Ok(page) => page,
+        match read_into(device, k, &mut page) {
+            Ok(()) => {}
             Err(_) => return Err(MountError::Device),
-        };
+        }
         match print_fault(k, &page, shape, counts) {
             Some(entry) => return Err(MountError::Damaged(Damage { page: k, entry })),
             None => {}

@@ -1,27 +1,25 @@
 // How many blocks name each data page.
-ghost use Rattle.std.specs.Prelude.{◌≡◌, ◌≤◌, ◌<◌, ◌+◌, ◌-◌, ℕ, length, replicate, IfOk};
+ghost use Rattle.std.specs.Prelude.{◌≡◌, ◌≤◌, ◌<◌, ◌+◌, ◌*◌, ℕ, min, List, length};
+ghost use Rattle.page_device.specs.Block.{Block};
 ghost use Rattle.page_layout.specs.Shape.{map_pages};
 ghost use Rattle.page_layout.specs.Tables.{page_of, IsMapPage};
 ghost use Rattle.mount_reader.specs.Tables.{named_below};
 ghost use Rattle.image_reader.specs.Tallies.{tally_of};
 
-use dedup_writer::name_at;
-use image_reader::{count_name, zeros};
-use page_device::{NoMemory, Page};
+use dedup_writer::used_entries;
+use image_reader::count_names;
+use page_device::Page;
 use page_layout::Shape;
-use std::alloc::Global;
 
-// How many blocks name each data page in these map pages.
-pub fn tally(alloc: Global, shape: &Shape, maps: &[Page]) -> Result<Vec<u32>, NoMemory>
-    requires pages { length maps.now ≡ map_pages shape.now }
-    requires entries { (j : ℕ) → j < map_pages shape.now → IsMapPage shape.now j (page_of maps.now j) }
-    ensures length { IfOk result (λ tallies. length tallies.items ≡ shape.now.pages) }
-    ensures tallies { IfOk result (λ tallies. (p : ℕ) → 1 ≤ p → p ≤ shape.now.pages → tally_of tallies.items p ≡ named_below maps.now p shape.now.blocks) }
+// Counts the names in the map page `j`, counted from 0, where those in the pages before it are counted.
+pub fn tally_page(tallies: &mut Vec<u32>, j: u32, page: &Page, shape: &Shape)
+    requires within { j < map_pages shape.now }
+    requires entries { IsMapPage shape.now j page.now }
+    requires length { length tallies.old.items ≡ shape.now.pages }
+    ensures length { length tallies.new.items ≡ shape.now.pages }
+    ensures tallies { (maps : List Block) (p : ℕ) → page_of maps j ≡ page.now → 1 ≤ p → tally_of tallies.old.items p ≡ named_below maps p (min shape.now.blocks (1024 * j))
+        → tally_of tallies.new.items p ≡ named_below maps p (min shape.now.blocks (1024 * (j + 1))) }
 {
-    let mut tallies = zeros(alloc, shape.pages)?;
-    for block in 0..shape.blocks {
-        let p = name_at(shape, maps, block);
-        count_name(&mut tallies, p);
-    }
-    Ok(tallies)
+    let used = used_entries(shape.blocks, j);
+    count_names(tallies, page, used);
 }

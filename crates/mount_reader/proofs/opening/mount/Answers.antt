@@ -6,7 +6,7 @@ use Rattle.page_layout.specs.Tables.{page_of, shape_of}
 use Rattle.array_model.specs.Images.{IsGood}
 use Rattle.array_model.specs.Array.{array_start}
 use Rattle.dedup_writer.specs.Stands.{StandsFor, AreCached}
-use Rattle.mount_reader.specs.Tables.{AreMaps, AreCounts, AreTallies, FitBetween, named_below}
+use Rattle.mount_reader.specs.Tables.{AreMaps, AreCounts, AreTallies, FitBetween}
 use Rattle.image_reader.specs.Tallies.{tally_of}
 use Rattle.image_reader.proofs.Looking.{looked_then, held_before, newest_at_rest}
 use Rattle.mount_reader.proofs.Names.{names_are}
@@ -33,8 +33,8 @@ returns-in-Err-read_counts-clause-cause g c =
     let at = c.in-Ok.ensures in
     let maps = c.in-Ok-read_maps.ensures in
     let image = newest d0.state in
-    mount_cause (first_count_page shape) shape (AreTallies shape c.deref-2.result.now) d0 d2 d3 (looked_then d0 d1 d2 at.looked maps.looked) (omega (arith, at.never_falls, maps.never_falls)) c.read_counts.ensures.never_falls at.has_shape at.shape
-    (λ honest tells p one le. ap (λ (l : List ℕ). tally_of l p) c.deref-2.ensures.value ∙ c.in-Ok-tally.ensures.tallies p one le ∙ ap (λ (l : List Block). named_below l p shape.blocks) c.deref.ensures.value ∙ names_are shape c.in-Ok-read_maps.maps.items image p (held_before (AreMaps shape c.in-Ok-read_maps.maps.items) d0 d1 at.looked maps.read honest tells))
+    mount_cause (first_count_page shape) shape (AreTallies shape c.deref.result.now) d0 d2 d3 (looked_then d0 d1 d2 at.looked maps.looked) (omega (arith, at.never_falls, maps.never_falls)) c.read_counts.ensures.never_falls at.has_shape at.shape
+    (λ honest tells p one le. ap (λ (l : List ℕ). tally_of l p) c.deref.ensures.value ∙ maps.tallies p one le ∙ names_are shape c.in-Ok-read_maps.maps.items image p (held_before (AreMaps shape c.in-Ok-read_maps.maps.items) d0 d1 at.looked maps.read honest tells))
     (λ honest tells. fit_then 0 1 (first_count_page shape) shape image (fit_super shape image) (held_before (λ (i : List Block). Unit {0} → FitBetween 1 (first_count_page shape) shape i) d0 d1 at.looked maps.fitted honest tells tt))
     c.in-Err-read_counts.why c.in-Err-read_counts.ensures.cause
 
@@ -51,13 +51,13 @@ returns-in-Err-check_prints-clause-cause g c =
     let counts = c.in-Ok-read_counts.ensures in
     let image = newest d0.state in
     let looked2 = looked_then d0 d1 d2 at.looked maps.looked in
-    mount_cause (first_print_page shape) shape (AreCounts shape c.deref-3.result.now) d0 d3 d4 (looked_then d0 d2 d3 looked2 counts.looked) (omega (arith, at.never_falls, maps.never_falls, counts.never_falls)) c.check_prints.ensures.never_falls at.has_shape at.shape
-    (λ honest tells j lt. ap (λ (l : List Block). page_of l j) c.deref-3.ensures.value ∙ held_before (AreCounts shape c.in-Ok-read_counts.counts.items) d0 d2 looked2 counts.read honest tells j lt)
+    mount_cause (first_print_page shape) shape (AreCounts shape c.deref-2.result.now) d0 d3 d4 (looked_then d0 d2 d3 looked2 counts.looked) (omega (arith, at.never_falls, maps.never_falls, counts.never_falls)) c.check_prints.ensures.never_falls at.has_shape at.shape
+    (λ honest tells j lt. ap (λ (l : List Block). page_of l j) c.deref-2.ensures.value ∙ held_before (AreCounts shape c.in-Ok-read_counts.counts.items) d0 d2 looked2 counts.read honest tells j lt)
     (λ honest tells.
-    let tallies : AreTallies shape c.deref-2.result.now image = λ p one le. ap (λ (l : List ℕ). tally_of l p) c.deref-2.ensures.value ∙ c.in-Ok-tally.ensures.tallies p one le ∙ ap (λ (l : List Block). named_below l p shape.blocks) c.deref.ensures.value ∙ names_are shape c.in-Ok-read_maps.maps.items image p (held_before (AreMaps shape c.in-Ok-read_maps.maps.items) d0 d1 at.looked maps.read honest tells) in
+    let tallies : AreTallies shape c.deref.result.now image = λ p one le. ap (λ (l : List ℕ). tally_of l p) c.deref.ensures.value ∙ maps.tallies p one le ∙ names_are shape c.in-Ok-read_maps.maps.items image p (held_before (AreMaps shape c.in-Ok-read_maps.maps.items) d0 d1 at.looked maps.read honest tells) in
     fit_then 0 (first_count_page shape) (first_print_page shape) shape image
     (fit_then 0 1 (first_count_page shape) shape image (fit_super shape image) (held_before (λ (i : List Block). Unit {0} → FitBetween 1 (first_count_page shape) shape i) d0 d1 at.looked maps.fitted honest tells tt))
-    (held_before (λ (i : List Block). AreTallies shape c.deref-2.result.now i → FitBetween (first_count_page shape) (first_print_page shape) shape i) d0 d2 looked2 counts.fitted honest tells tallies))
+    (held_before (λ (i : List Block). AreTallies shape c.deref.result.now i → FitBetween (first_count_page shape) (first_print_page shape) shape i) d0 d2 looked2 counts.fitted honest tells tallies))
     c.in-Err-check_prints.why c.in-Err-check_prints.ensures.cause
 
 pub returns-in-Ok-over-clause-fit : goal.returns-in-Ok-over-clause-fit
@@ -73,13 +73,13 @@ returns-in-Ok-over-clause-fit g c = λ honest tells.
     let image = newest d0.state in
     let looked2 = looked_then d0 d1 d2 at.looked maps.looked in
     let looked3 = looked_then d0 d2 d3 looked2 counts.looked in
-    let tallies : AreTallies shape c.deref-2.result.now image = λ p one le. ap (λ (l : List ℕ). tally_of l p) c.deref-2.ensures.value ∙ c.in-Ok-tally.ensures.tallies p one le ∙ ap (λ (l : List Block). named_below l p shape.blocks) c.deref.ensures.value ∙ names_are shape c.in-Ok-read_maps.maps.items image p (held_before (AreMaps shape c.in-Ok-read_maps.maps.items) d0 d1 at.looked maps.read honest tells) in
-    let are : AreCounts shape c.deref-3.result.now image = λ j lt. ap (λ (l : List Block). page_of l j) c.deref-3.ensures.value ∙ held_before (AreCounts shape c.in-Ok-read_counts.counts.items) d0 d2 looked2 counts.read honest tells j lt in
+    let tallies : AreTallies shape c.deref.result.now image = λ p one le. ap (λ (l : List ℕ). tally_of l p) c.deref.ensures.value ∙ maps.tallies p one le ∙ names_are shape c.in-Ok-read_maps.maps.items image p (held_before (AreMaps shape c.in-Ok-read_maps.maps.items) d0 d1 at.looked maps.read honest tells) in
+    let are : AreCounts shape c.deref-2.result.now image = λ j lt. ap (λ (l : List Block). page_of l j) c.deref-2.ensures.value ∙ held_before (AreCounts shape c.in-Ok-read_counts.counts.items) d0 d2 looked2 counts.read honest tells j lt in
     let before = fit_then 0 (first_count_page shape) (first_print_page shape) shape image
     (fit_then 0 1 (first_count_page shape) shape image (fit_super shape image) (held_before (λ (i : List Block). Unit {0} → FitBetween 1 (first_count_page shape) shape i) d0 d1 at.looked maps.fitted honest tells tt))
-    (held_before (λ (i : List Block). AreTallies shape c.deref-2.result.now i → FitBetween (first_count_page shape) (first_print_page shape) shape i) d0 d2 looked2 counts.fitted honest tells tallies) in
+    (held_before (λ (i : List Block). AreTallies shape c.deref.result.now i → FitBetween (first_count_page shape) (first_print_page shape) shape i) d0 d2 looked2 counts.fitted honest tells tallies) in
     let all = fit_then 0 (first_print_page shape) (first_data_page shape) shape image before
-    (held_before (λ (i : List Block). AreCounts shape c.deref-3.result.now i → FitBetween (first_print_page shape) (first_data_page shape) shape i) d0 d3 looked3 c.in-Ok-check_prints.ensures.fitted honest tells are) in
+    (held_before (λ (i : List Block). AreCounts shape c.deref-2.result.now i → FitBetween (first_print_page shape) (first_data_page shape) shape i) d0 d3 looked3 c.in-Ok-check_prints.ensures.fitted honest tells are) in
     fit_image image (at.has_shape honest tells) (subst (λ (s : ShapeView). FitBetween 0 (first_data_page s) s image) (sym (at.shape honest tells).is) all)
 
 pub returns-in-Ok-over-clause-stands : goal.returns-in-Ok-over-clause-stands

@@ -22,7 +22,7 @@ returns-in-Some-clause-cause g c = λ honest tells are.
     let image = newest d0.state in
     let low : first_print_page shape ≤ k = omega (arith, c.loop-k.auto.k, c.first_print_page-k.ensures.place) in
     let high : k < first_data_page shape = omega (arith, c.loop-k-test.true, c.first_data_page-k-end.ensures.place) in
-    let read : page_of image k ≡ c.in-Ok.page = held_before (λ (i : List Block). page_of i k ≡ c.in-Ok.page) d0 d1 c.loop-k.invariant.looked c.in-Ok.ensures.read honest tells in
+    let read : page_of image k ≡ c.read_into.new.into = held_before (λ (i : List Block). page_of i k ≡ c.read_into.new.into) d0 d1 c.loop-k.invariant.looked c.in-Ok.ensures.read honest tells in
     first_here (first_print_page shape) k 171 shape image (λ i. IsEntry Print shape k (page_of image k) i × IsBacked shape counts j (page_of image k) i) (λ i. print_fit shape image k i low high counts are) (λ i. of_print shape image k i low high counts are) (c.loop-k.invariant.fitted honest tells are) c.in-Some.entry
     (subst (λ (b : Block). IsFirstFault (λ i. IsEntry Print shape k b i × IsBacked shape counts j b i) 171 (Some c.in-Some.entry)) (sym read) c.in-Some.ensures)
 
@@ -30,13 +30,13 @@ pub loop-k-preserved : goal.loop-k-preserved
 loop-k-preserved g c =
     let d0 = g.D.Device.seen c.args.device.now in
     let d1 = g.D.Device.seen c.loop-k.device in
-    let d2 = g.D.Device.seen c.read_page.new.device in
+    let d2 = g.D.Device.seen c.read_into.new.device in
     let shape = c.args.shape.now in
     let counts = c.args.counts.now in
     let k = c.loop-k.k in
     let j = k - first_print_page shape in
     let inv = c.loop-k.invariant in
-    let page = c.in-Ok.page in
+    let page = c.read_into.new.into in
     let low : first_print_page shape ≤ k = omega (arith, c.loop-k.auto.k, c.first_print_page-k.ensures.place) in
     let high : k < first_data_page shape = omega (arith, c.loop-k-test.true, c.first_data_page-k-end.ensures.place) in
     record {

@@ -1,11 +1,19 @@
 use Rattle.std.proofs.Common.{◌≡◌, ℕ, ◌-◌, arith, subst, sym}
 use Rattle.page_layout.specs.Shape.{first_print_page}
+use Rattle.page_layout.specs.Tables.{print_entry_of}
 use Rattle.page_layout.specs.Entries.{IsEntry, IsFirstFault}
 use Rattle.page_layout.specs.declared.shape.Table.TheVariants.{Print}
 use Rattle.mount_reader.specs.Tables.{IsBacked}
 use Rattle.image_reader.proofs.TablesAt.{print_table}
+use Rattle.image_reader.proofs.ZeroTables.{zeros_formed, no_print, none_is_no_some}
 use Rattle.mount_reader.proofs.Firsts.{first_of_both}
 use Rattle.mount_reader.proofs.prints.print_fault.Goals as goal
+
+pub returns-then-is_zero : goal.returns-then-is_zero
+returns-then-is_zero c = λ i lt.
+    let page = c.args.page.now in
+    let is = c.is_zero.ensures.zero.0 c.if-is_zero.true in
+    (zeros_formed Print c.args.shape.now c.args.k page is i lt, λ _ _ some. absurd (none_is_no_some (print_entry_of page i) (no_print page i is) some))
 
 pub returns : goal.returns
 returns c =
