@@ -30,9 +30,13 @@ count_index p = (p - 1) / 1024
 abbrev pub print_index : ℕ → ℕ
 print_index p = (p - 1) / 170
 
+-- the data page that a block names in these map pages, or 0
+abbrev pub name_in : List Block → ℕ → ℕ
+name_in maps block = entry_of (page_of maps (map_index block)) (map_place block)
+
 -- the cached map entry of a block, and the cached count of a data page
 abbrev pub cached_map : CachedTables → ℕ → ℕ
-cached_map t block = entry_of (page_of t.maps (map_index block)) (map_place block)
+cached_map t block = name_in t.maps block
 
 abbrev pub cached_count : CachedTables → ℕ → ℕ
 cached_count t p = entry_of (page_of t.counts (count_index p)) (count_place p)

@@ -1,21 +1,22 @@
 // The store over a device.
-ghost use Rattle.std.specs.Prelude.{◌≡◌, ◌≢◌, ◌↔◌, IsTrue, ℕ, ◌+◌, ◌-◌, ◌<◌, ◌≤◌, true, false, length, replicate, slice_set, IsOk, IsErr, IfOk, IfErr, OnOk, OnErr, IfSome, IfNone, Some};
+ghost use Rattle.std.specs.Prelude.{◌≡◌, ℕ, ◌+◌, ◌-◌, ◌<◌, ◌≤◌, true, false, length, replicate, IsOk, IsErr, IfOk, IfErr, OnOk, IfSome, IfNone, Some};
 ghost use Rattle.page_device.specs.Block.{zero_block};
-ghost use Rattle.page_device.specs.Disk.{at_rest, newest};
+ghost use Rattle.page_device.specs.Disk.{at_rest};
 ghost use Rattle.page_device.specs.Meaning.{Meaning, HasCause};
 ghost use Rattle.page_layout.specs.Numbers.{entry_of};
 ghost use Rattle.page_layout.specs.Shape.{IsValid, total, map_pages, count_pages, map_place, count_place, data_page};
 ghost use Rattle.page_layout.specs.Tables.{IsMapPage, shape_of, page_of};
-ghost use Rattle.dedup_writer.specs.Core.{map_index, count_index};
+ghost use Rattle.dedup_writer.specs.Core.{count_index, name_in};
 ghost use Rattle.dedup_writer.specs.Put.{PutsCounted};
+ghost use Rattle.array_model.specs.Counting.{mapped_of};
 ghost use Rattle.array_model.specs.Images.{Mode, IsGood};
 ghost use Rattle.array_model.specs.Array.{BlockArray, array_start, last, maps, writes_nothing, writes_one};
 
 use crate::put::put;
 use crate::totals::{Totals, opened};
-use array_model::is_zero;
 use page_device::{Damage, Device, Failed, NoMemory, Page};
 use page_layout::{Shape, count_entry, map_entry, set_count_entry, set_map_entry};
+use sparse_pages::SparsePages;
 use std::alloc::Global;
 use std::marker::Model;
 use trace_text::Stat;
@@ -37,14 +38,14 @@ pub enum Refusal {
 /// Blocks over a device.
 ///
 /// A store keeps no device: each call is lent the one over which it was opened, and what is promised of
-/// contents is promised over that one. It keeps all map and count pages in memory: 4 bytes a logical
-/// block and 4 bytes a data page.
+/// contents is promised over that one. It keeps the map and count pages in memory: 4 bytes a logical block and
+/// 4 bytes a data page, but a few bytes for a page of zeros.
 #[derive(Drop)]
 pub struct Store {
     shape: Shape,
     // The map pages and the count pages, in order.
-    maps: Vec<Page>,
-    counts: Vec<Page>,
+    maps: SparsePages,
+    counts: SparsePages,
     // Which map pages have yet to be written.
     pending: Vec<bool>,
     // Each data page below it is counted.
@@ -83,24 +84,24 @@ fn no_flags(alloc: Global, n: u32) -> Result<Vec<bool>, NoMemory>
 
 // The map entry of a block in these map pages, which are all of them, in order: the data page that it
 // names, or 0.
-fn name_at(shape: &Shape, maps: &[Page], block: u32) -> u32
+fn name_at(shape: &Shape, maps: &SparsePages, block: u32) -> u32
     requires block { block < shape.now.blocks }
-    requires pages { length maps.now ≡ map_pages shape.now }
-    ensures { result ≡ entry_of (page_of maps.now (map_index block)) (map_place block) }
+    requires pages { length maps.now.items ≡ map_pages shape.now }
+    ensures { result ≡ name_in maps.now.items block }
 {
     let (page, entry) = shape.map_place(block);
-    map_entry(&maps[page as usize - 1], entry)
+    map_entry(maps.page(page - 1), entry)
 }
 
 /// The count of a data page in these count pages, which are all of them, in order. Constant.
-pub fn count_at(shape: &Shape, counts: &[Page], p: u32) -> u32
+pub fn count_at(shape: &Shape, counts: &SparsePages, p: u32) -> u32
     requires first { 1 ≤ p }
     requires last { p ≤ shape.now.pages }
-    requires pages { length counts.now ≡ count_pages shape.now }
-    ensures { result ≡ entry_of (page_of counts.now (count_index p)) (count_place p) }
+    requires pages { length counts.now.items ≡ count_pages shape.now }
+    ensures { result ≡ entry_of (page_of counts.now.items (count_index p)) (count_place p) }
 {
     let (page, entry) = shape.count_place(p);
-    count_entry(&counts[(page - shape.first_count_page()) as usize], entry)
+    count_entry(counts.page(page - shape.first_count_page()), entry)
 }
 
 // Whether a write of this content maps its block: in version 2 a write of zeros does not.
@@ -108,11 +109,11 @@ fn maps_block(shape: &Shape, from: &Page) -> bool
     ensures maps { result ≡ maps shape.now.version from.now }
     ensures zeros { result ≡ false → from.now ≡ zero_block }
 {
-    shape.version != 2 || !is_zero(from)
+    shape.version != 2 || !from.is_zero()
 }
 
 // The number of map pages.
-pub fn number_of_map_pages(shape: &Shape) -> u32
+fn number_of_map_pages(shape: &Shape) -> u32
     ensures pages { result ≡ map_pages shape.now }
     ensures valid { IsValid shape.now }
 {
@@ -121,14 +122,14 @@ pub fn number_of_map_pages(shape: &Shape) -> u32
 }
 
 // The first data page from `next` on that nothing counts, or the number behind the last one.
-fn first_free(shape: &Shape, counts: &[Page], next: u32) -> u32
+fn first_free(shape: &Shape, counts: &SparsePages, next: u32) -> u32
     requires first { 1 ≤ next }
     requires last { next ≤ shape.now.pages + 1 }
-    requires pages { length counts.now ≡ count_pages shape.now }
+    requires pages { length counts.now.items ≡ count_pages shape.now }
     ensures from { next ≤ result }
     ensures to { result ≤ shape.now.pages + 1 }
-    ensures free { result ≤ shape.now.pages → entry_of (page_of counts.now (count_index result)) (count_place result) ≡ 0 }
-    ensures passed { (p : ℕ) → next ≤ p → p < result → 1 ≤ entry_of (page_of counts.now (count_index p)) (count_place p) }
+    ensures free { result ≤ shape.now.pages → entry_of (page_of counts.now.items (count_index result)) (count_place result) ≡ 0 }
+    ensures passed { (p : ℕ) → next ≤ p → p < result → 1 ≤ entry_of (page_of counts.now.items (count_index p)) (count_place p) }
 {
     let end = shape.pages + 1;
     for p in next..end {
@@ -140,28 +141,31 @@ fn first_free(shape: &Shape, counts: &[Page], next: u32) -> u32
 }
 
 impl Store {
-    ghost use Rattle.dedup_writer.specs.Core.{CoreView, cached_map, cached_count, count_index, map_index, stat_of, waste};
+    ghost use Rattle.dedup_writer.specs.Core.{CoreView, cached_map, cached_count, count_index, name_in, stat_of, waste};
     ghost use Rattle.dedup_writer.specs.Stands.{StandsFor, AreCached};
     ghost use Rattle.dedup_writer.specs.Calls.{StoreCall, after_write, after_discard, after_flush, WriteCause, ReadCause, DiscardCause, IsFull, CountsOne, NamesOne, Settles, AllCounted};
 
-    /// The store over an image of this shape, whose map pages and count pages these are, each in order.
-    /// Makes no device call. Linear in the blocks and the data pages.
+    /// The store over an image of this shape, whose map pages and count pages these are, each in order, and of
+    /// whose blocks so many are mapped. Makes no device call. Linear in the data pages, of which those in
+    /// pages of zeros cost little.
     pub fn over(
         alloc: Global,
         shape: Shape,
-        maps: Vec<Page>,
-        counts: Vec<Page>,
+        maps: SparsePages,
+        counts: SparsePages,
+        mapped: u32,
     ) -> Result<Store, NoMemory>
         requires maps { length maps.items ≡ map_pages shape }
         requires counts { length counts.items ≡ count_pages shape }
         requires entries { (j : ℕ) → j < map_pages shape → IsMapPage shape j (page_of maps.items j) }
+        requires mapped { mapped ≡ mapped_of (name_in maps.items) shape.blocks }
         ensures shape { IfOk result (λ store. store.tables.shape ≡ shape) }
         ensures calls { IfOk result (λ store. store.calls ≡ 0) }
         ensures stands { IfOk result (λ store. (mode : Mode) (d : Meaning) → d.honest ≡ true → d.tells_pages ≡ true → length d.state.fixed ≡ d.pages
             → d.state ≡ at_rest d.state.fixed → shape_of d.state.fixed ≡ shape → IsGood mode d.state.fixed → AreCached d.state.fixed shape maps.items counts.items
             → StandsFor mode store d (array_start d.state.fixed)) }
     {
-        let totals = opened(&shape, &maps, &counts);
+        let totals = opened(&shape, &counts, mapped);
         let pending = no_flags(alloc, number_of_map_pages(&shape))?;
         Ok(Store {
             shape,
@@ -344,7 +348,7 @@ impl Store {
         if !self.pending[at] {
             return Ok(());
         }
-        match put(device, &mut self.calls, index + 1, &self.maps[at]) {
+        match put(device, &mut self.calls, index + 1, self.maps.page(index)) {
             Ok(()) => {
                 self.pending[at] = false;
                 self.totals.marked(true, false);
@@ -416,10 +420,10 @@ impl Store {
         ensures counts { CountsOne p result self.old self.new (D.seen device.old) (D.seen device.new) }
     {
         let (page, entry) = self.shape.count_place(p);
-        let index = (page - self.shape.first_count_page()) as usize;
-        set_count_entry(&mut self.counts[index], entry, 1);
+        let index = page - self.shape.first_count_page();
+        set_count_entry(self.counts.edit(index), entry, 1);
         self.totals.counted_first();
-        put(device, &mut self.calls, page, &self.counts[index])
+        put(device, &mut self.calls, page, self.counts.page(index))
     }
 
     // Gives a block the name of a data page, in the cache and then on the device. A map page that could
@@ -435,12 +439,13 @@ impl Store {
         let was = self.name_of(block);
         self.totals.renamed(was, p);
         let (page, entry) = self.shape.map_place(block);
-        let index = page as usize - 1;
-        set_map_entry(&mut self.maps[index], entry, p);
-        let was_pending = self.pending[index];
-        self.pending[index] = true;
-        let refused = put(device, &mut self.calls, page, &self.maps[index]).is_err();
-        self.pending[index] = refused;
+        let index = page - 1;
+        set_map_entry(self.maps.edit(index), entry, p);
+        let at = index as usize;
+        let was_pending = self.pending[at];
+        self.pending[at] = true;
+        let refused = put(device, &mut self.calls, page, self.maps.page(index)).is_err();
+        self.pending[at] = refused;
         self.totals.marked(was_pending, refused);
     }
 }

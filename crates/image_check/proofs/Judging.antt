@@ -6,7 +6,7 @@ use Rattle.page_layout.specs.Tables.{shape_of, HasShape, map_of, count_of}
 use Rattle.array_model.specs.Counting.{count_below, sum_below, mapped_of, counted_of}
 use Rattle.array_model.specs.Images.{EachPage, IsSound, waste_of}
 use Rattle.array_model.proofs.CountingLemmas.{sum_below-same}
-use Rattle.image_reader.specs.Tallies.{tally_of}
+use Rattle.image_reader.specs.Tallies.{tally_of, NamesTo}
 use Rattle.image_reader.proofs.WellFormed.{formed_entry}
 use Rattle.image_check.specs.declared.counts.Low.{Low}
 use Rattle.image_check.specs.declared.verdict.Verdict.{Verdict}
@@ -15,7 +15,7 @@ use Rattle.page_device.specs.Meaning.{Meaning}
 use Rattle.image_reader.specs.Looked.{Holds}
 use Rattle.page_device.specs.Disk.{newest}
 use Rattle.image_check.specs.Verdicts.{IsVerdict, IsUnsound, IsLowCount, IsWrongPrint, IsPrintOnZero, HasTruePrint}
-use Rattle.image_check.specs.Steps.{FormedBelow, NamesTo, NamesAre, CountsTo, IsFirstLow, IsReady, PrintsTo}
+use Rattle.image_check.specs.Steps.{FormedBelow, NamesAre, CountsTo, IsFirstLow, IsReady, PrintsTo}
 use Rattle.image_check.proofs.Malformed.{well_formed}
 
 module _ (shape : ShapeView) (image : List Block) (told : shape_of image ≡ shape) where
@@ -23,7 +23,7 @@ module _ (shape : ShapeView) (image : List Block) (told : shape_of image ≡ sha
   pages = ap (λ (s : ShapeView). s.pages) told
 
   -- the names of all blocks are the names of the image
-  pub names_are : (tallies : List ℕ) (mapped : ℕ) → NamesTo shape.pages shape.blocks image tallies mapped → NamesAre shape.pages image tallies
+  pub names_are : (tallies : List ℕ) (mapped : ℕ) → NamesTo shape.pages shape.blocks (map_of image) tallies mapped → NamesAre shape.pages image tallies
   names_are tallies mapped to p one le = to.named p one le ∙ ap (λ (s : ShapeView). count_below (λ block. map_of image block == p) s.blocks) (sym told)
 
   -- all that the fingerprints need

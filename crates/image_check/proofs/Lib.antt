@@ -1,6 +1,5 @@
 pub mod Stopped
 pub mod Malformed
-pub mod Naming
 pub mod Comparing
 pub mod Printing
 pub mod Judging

@@ -1,12 +1,11 @@
 -- One print more, which is true, and it may be the first on a data page that nothing counts.
 use Rattle.std.proofs.Common.{◌≡◌, ⊎_elim, ℕ, suc, ◌+◌, ◌≤◌, Bool, if◌then◌else◌, List, Option, Some, None, IsSome, is_some, refl, sym, ◌∙◌, ap, subst, arith, eq-eqb}
-use Rattle.std.proofs.lemmas.Bool.{cases_lt, cases_eq}
+use Rattle.std.proofs.lemmas.Bool.{cases_lt, cases_eq, ne_eqb}
 use Rattle.page_device.specs.Block.{Block}
 use Rattle.page_layout.specs.Shape.{ShapeView, print_page, print_place}
 use Rattle.page_layout.specs.Tables.{page_of, shape_of, print_of, count_of, print_entry_of}
 use Rattle.image_check.specs.Verdicts.{HasTruePrint, IsBacked}
 use Rattle.image_check.specs.Steps.{PrintsTo, ZeroTo, noted_zero}
-use Rattle.image_check.proofs.Naming.{differs}
 
 -- the print of a data page stands in its entry
 pub print_told : (shape : ShapeView) (image : List Block) (k i p : ℕ) (page : Block) → shape_of image ≡ shape → page_of image k ≡ page → print_page shape p ≡ k → print_place p ≡ i → print_of image p ≡ print_entry_of page i
@@ -29,7 +28,7 @@ module _ (at : ℕ) (image : List Block) (count : ℕ) (counted : count ≡ coun
   bare_next None (Some f) is h = ⊎_elim
       (λ same. subst (λ (b : Bool). ZeroTo (suc at) image (if b then Some (at + 1) else None)) (sym (eq-eqb count 0 same))
       (omega arith, omega arith, λ backed. omega (arith, backed (subst IsSome (sym is) refl), counted, same), λ q one less. h q one (omega (arith, less))))
-      (λ other. subst (λ (b : Bool). ZeroTo (suc at) image (if b then Some (at + 1) else None)) (sym (differs count 0 other))
+      (λ other. subst (λ (b : Bool). ZeroTo (suc at) image (if b then Some (at + 1) else None)) (sym (ne_eqb count 0 other))
       (up_to (IsBacked image) h (λ some. omega (arith, counted, other))))
       (cases_eq count 0)
 

@@ -3,9 +3,8 @@ use Rattle.std.specs.Prelude.{◌≡◌, ℕ, ◌<◌, ◌≤◌, ◌==◌, nat_
 use Rattle.page_device.specs.Block.{Block}
 use Rattle.page_layout.specs.declared.shape.Table.{Table}
 use Rattle.page_layout.specs.Shape.{ShapeView, first_data_page}
-use Rattle.page_layout.specs.Tables.{map_of, count_of}
+use Rattle.page_layout.specs.Tables.{count_of}
 use Rattle.page_layout.specs.Entries.{table_at, entries_of, IsEntry}
-use Rattle.array_model.specs.Counting.{count_below, mapped_of}
 use Rattle.array_model.specs.Images.{names}
 use Rattle.image_reader.specs.Formed.{IsFormed}
 use Rattle.image_reader.specs.Tallies.{tally_of}
@@ -18,11 +17,6 @@ FormedBelow k shape image = (q i : ℕ) → q < k → IsFormed shape image q i
 
 abbrev pub IsFormedPage : ShapeView → ℕ → Block → Type 0
 IsFormedPage shape k page = (t : Table) → table_at shape k ≡ Some t → (i : ℕ) → i < entries_of t → IsEntry t shape k page i
-
--- the tallies are the names of the first so many blocks, of which so many are mapped
-pub record NamesTo (pages n : ℕ) (image : List Block) (tallies : List ℕ) (mapped : ℕ) : Type 0 where
-  pub named : (p : ℕ) → 1 ≤ p → p ≤ pages → tally_of tallies p ≡ count_below (λ block. map_of image block == p) n
-  pub mapped_is : mapped ≡ mapped_of (map_of image) n
 
 -- the tallies are the names of the image
 abbrev pub NamesAre : ℕ → List Block → List ℕ → Type 0

@@ -1,5 +1,5 @@
 pub mod Looking
 pub mod TablesAt
 pub mod WellFormed
-pub mod Counts
 pub mod ZeroTables
+pub mod Naming

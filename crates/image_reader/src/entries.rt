@@ -3,7 +3,6 @@ ghost use Rattle.std.specs.Prelude.{◌≡◌, Some, IsSome};
 ghost use Rattle.page_layout.specs.declared.shape.Table.{Table};
 ghost use Rattle.page_layout.specs.Entries.{table_at, entries_of, IsEntry, IsFirstFault};
 
-use array_model::is_zero;
 use page_device::Page;
 use page_layout::{Shape, table_fault};
 
@@ -13,7 +12,7 @@ pub fn malformed_entry(k: u32, page: &Page, shape: &Shape) -> Option<u32>
     requires { IsSome (table_at shape.now k) }
     ensures { (t : Table) → table_at shape.now k ≡ Some t → IsFirstFault (IsEntry t shape.now k page.now) (entries_of t) result }
 {
-    if is_zero(page) {
+    if page.is_zero() {
         return None;
     }
     match table_fault(k, page, shape) {

@@ -12,4 +12,4 @@ mod tests;
 
 pub use entries::malformed_entry;
 pub use reading::{find_shape, read_into, read_page};
-pub use tallies::{count_name, count_names, zeros};
+pub use tallies::{tally_page, zeros};

@@ -1,5 +1,6 @@
 // What is read of the image of 4 blocks and 4 data pages.
-use crate::{count_name, find_shape, malformed_entry, read_page, zeros};
+use crate::tallies::count_name;
+use crate::{find_shape, malformed_entry, read_page, zeros};
 use page_device::{Device, MemDevice, Page};
 use page_layout::{Shape, super_page};
 use std::alloc::Global;
@@ -47,9 +48,9 @@ fn reads_a_page(rt: HostRuntime) -> Result<(), Fail> {
 #[test]
 fn counts_names(rt: HostRuntime) -> Result<(), Fail> {
     let mut tallies = zeros(rt.alloc(), 4)?;
-    for p in [4, 0, 1, 4] {
+    for (p, one) in [(4, 1), (0, 0), (1, 1), (4, 1)] {
         if tallies.len() == 4 {
-            count_name(&mut tallies, p);
+            assert_eq!(rt; count_name(&mut tallies, p), one, "page {p}");
         }
     }
     let counted: [u32; 4] = [1, 0, 0, 2];

@@ -10,10 +10,8 @@ mod error;
 mod formatting;
 mod maps;
 mod opening;
-mod pages;
 mod places;
 mod prints;
-mod tallies;
 #[cfg(test)]
 mod tests;
 

@@ -1,24 +1,24 @@
 // The print pages are looked over.
-ghost use Rattle.std.specs.Prelude.{◌≡◌, ◌≤◌, ◌<◌, ◌+◌, ◌-◌, ◌*◌, ℕ, length, IfOk, IfErr};
+ghost use Rattle.std.specs.Prelude.{◌≡◌, ◌≤◌, ◌<◌, ◌+◌, ◌-◌, ◌*◌, length, IfOk, IfErr};
 ghost use Rattle.page_layout.specs.Shape.{total, count_pages, print_pages, first_print_page, first_data_page};
 ghost use Rattle.page_layout.specs.Entries.{IsEntry, IsFirstFault};
 ghost use Rattle.page_layout.specs.declared.shape.Table.TheVariants as table;
-ghost use Rattle.image_reader.specs.Looked.{Looked, Holds};
+ghost use Rattle.image_reader.specs.Looked.{Looked};
 ghost use Rattle.mount_reader.specs.Tables.{AreCounts, IsBacked, ReadCause, ReadFit};
 
 use crate::MountError;
 use crate::places::lower;
-use array_model::is_zero;
 use dedup_writer::count_at;
 use image_reader::{malformed_entry, read_into};
 use page_device::{Damage, Device, Page};
 use page_layout::{Shape, print_entry};
+use sparse_pages::SparsePages;
 
 // The first print of a print page, counted from 0, that stands on a data page that nothing counts.
-fn loose_print(j: u32, page: &Page, shape: &Shape, counts: &[Page]) -> Option<u32>
+fn loose_print(j: u32, page: &Page, shape: &Shape, counts: &SparsePages) -> Option<u32>
     requires page { j < print_pages shape.now }
-    requires counts { length counts.now ≡ count_pages shape.now }
-    ensures { IsFirstFault (IsBacked shape.now counts.now j page.now) 171 result }
+    requires counts { length counts.now.items ≡ count_pages shape.now }
+    ensures { IsFirstFault (IsBacked shape.now counts.now.items j page.now) 171 result }
 {
     let pages = shape.pages;
     let before = 170 * j;
@@ -32,13 +32,13 @@ fn loose_print(j: u32, page: &Page, shape: &Shape, counts: &[Page]) -> Option<u3
 }
 
 // The first entry of a print page that no fit image has. A page of zeros is passed at once.
-fn print_fault(k: u32, page: &Page, shape: &Shape, counts: &[Page]) -> Option<u32>
+fn print_fault(k: u32, page: &Page, shape: &Shape, counts: &SparsePages) -> Option<u32>
     requires first { first_print_page shape.now ≤ k }
     requires last { k < first_data_page shape.now }
-    requires counts { length counts.now ≡ count_pages shape.now }
-    ensures { IsFirstFault (λ i. IsEntry table.Print shape.now k page.now i × IsBacked shape.now counts.now (k - first_print_page shape.now) page.now i) 171 result }
+    requires counts { length counts.now.items ≡ count_pages shape.now }
+    ensures { IsFirstFault (λ i. IsEntry table.Print shape.now k page.now i × IsBacked shape.now counts.now.items (k - first_print_page shape.now) page.now i) 171 result }
 {
-    if is_zero(page) {
+    if page.is_zero() {
         return None;
     }
     let malformed = malformed_entry(k, page, shape);
@@ -53,15 +53,15 @@ fn print_fault(k: u32, page: &Page, shape: &Shape, counts: &[Page]) -> Option<u3
 pub fn check_prints<D: Device>(
     device: &mut D,
     shape: &Shape,
-    counts: &[Page],
+    counts: &SparsePages,
 ) -> Result<(), MountError>
     requires room { total shape.now ≤ (D.seen device.old).pages }
-    requires counts { length counts.now ≡ count_pages shape.now }
+    requires counts { length counts.now.items ≡ count_pages shape.now }
     ensures looked { Looked (D.seen device.old) (D.seen device.new) }
     ensures pages { (D.seen device.new).pages ≡ (D.seen device.old).pages }
     ensures never_falls { (D.seen device.old).faults ≤ (D.seen device.new).faults }
-    ensures cause { IfErr result (λ why. ReadCause (first_print_page shape.now) shape.now (AreCounts shape.now counts.now) why (D.seen device.old) (D.seen device.new)) }
-    ensures fitted { IfOk result (λ _. ReadFit (first_print_page shape.now) (first_data_page shape.now) shape.now (AreCounts shape.now counts.now) (D.seen device.old)) }
+    ensures cause { IfErr result (λ why. ReadCause (first_print_page shape.now) shape.now (AreCounts shape.now counts.now.items) why (D.seen device.old) (D.seen device.new)) }
+    ensures fitted { IfOk result (λ _. ReadFit (first_print_page shape.now) (first_data_page shape.now) shape.now (AreCounts shape.now counts.now.items) (D.seen device.old)) }
 {
     let mut page = Page::zero();
     for k in shape.first_print_page()..shape.first_data_page() {

@@ -1,4 +1,6 @@
 // A page of the disk, and the named contents.
+ghost use Rattle.std.specs.Prelude.{◌≡◌, ℕ, ◌<◌, length, slice_index};
+
 use std::marker::Model;
 
 /// The 4096 bytes of one page. Contracts see the list of the bytes.
@@ -15,6 +17,18 @@ impl Model for Page {
     ghost invariant = { λ p. length p.0 ≡ 4096 };
 
     ghost inverse = { λ bytes. record { 0 = bytes } };
+}
+
+// The bits that some byte has. Has no early end, so that many bytes are looked at at a time.
+fn some_bits(bytes: &[u8]) -> u8
+    ensures none { result ≡ 0 → (i : ℕ) → i < length bytes.now → slice_index bytes.now i ≡ 0 }
+    ensures all { ((i : ℕ) → i < length bytes.now → slice_index bytes.now i ≡ 0) → result ≡ 0 }
+{
+    let mut some = 0;
+    for byte in bytes {
+        some |= *byte;
+    }
+    some
 }
 
 impl Page {
@@ -42,6 +56,15 @@ impl Page {
         ensures { result ≡ self.now }
     {
         Page(self.0)
+    }
+
+    /// Whether each byte is zero: what an unmapped block reads, and what a table page holds of which no entry is
+    /// used. Linear in the page, many bytes at a time.
+    pub fn is_zero(&self) -> bool
+        ensures zero { IsTrue result ↔ (self.now ≡ zero_block) }
+        ensures whole { length self.now ≡ 4096 }
+    {
+        some_bits(&self.0) == 0
     }
 
     /// The bytes.

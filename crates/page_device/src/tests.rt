@@ -96,6 +96,12 @@ fn gives_each_image(rt: HostRuntime) {
 }
 
 #[test]
+fn knows_the_page_of_zeros(rt: HostRuntime) {
+    assert!(rt; Page::zero().is_zero());
+    assert!(rt; !Page::numbered(1).is_zero());
+}
+
+#[test]
 fn counts_each_call(rt: HostRuntime) {
     let Ok(device) = history(rt.alloc()) else {
         panic!(rt; "the history went wrong");

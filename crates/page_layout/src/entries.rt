@@ -1,9 +1,20 @@
 // The entries of map pages and of count pages: 1024 numbers a page.
-ghost use Rattle.std.specs.Prelude.{◌≡◌, ◌<◌};
+ghost use Rattle.std.specs.Prelude.{◌≡◌, ◌<◌, ◌≤◌, ◌+◌, ◌*◌, min};
 ghost use Rattle.page_layout.specs.Numbers.{entry_of, SetsEntry};
 
 use crate::numbers::{number, set_number};
+use crate::shape::NUMBERS;
 use page_device::Page;
+
+/// How many entries of the map page or count page `j`, counted from 0, are used, where so many are used in
+/// all pages. Constant time.
+pub fn used_entries(entries: u32, j: u32) -> u32
+    requires { 1024 * j ≤ entries }
+    ensures upto { 1024 * j + result ≡ min entries (1024 * (j + 1)) }
+    ensures few { result ≤ 1024 }
+{
+    (entries - NUMBERS * j).min(NUMBERS)
+}
 
 /// The entry `i` of a map page: the data page that a block names, or 0. Constant time.
 pub fn map_entry(page: &Page, i: u32) -> u32

@@ -1,5 +1,6 @@
 // The first malformed entry of a table page.
-ghost use Rattle.std.specs.Prelude.{◌≡◌, ◌+◌, ◌*◌, ◌<◌, ◌↔◌, length, IsTrue, IsNone, IsSome, IfSome, true, false};
+ghost use Rattle.std.specs.Prelude.{◌≡◌, ℕ, ◌+◌, ◌*◌, ◌<◌, ◌≤◌, ◌↔◌, length, IsTrue, IsNone, IsSome, IfSome, true, false};
+ghost use Rattle.page_layout.specs.Numbers.{entry_of};
 ghost use Rattle.page_layout.specs.Tables.{IsPrintEntry, AreZero};
 ghost use Rattle.page_layout.specs.declared.shape.Table.{Table};
 ghost use Rattle.page_layout.specs.Entries.{table_at, entries_of, IsTablePage, IsEntry, IsNumberEntry, IsPrintPlace, IsFirstFault};
@@ -56,11 +57,27 @@ fn entry_fault(table: Table, page_no: u32, page: &Page, shape: &Shape) -> Option
     }
 }
 
-// Among numbers, of which the first `used` are up to a limit and the others 0.
+// No number of a page is larger.
+fn largest(bytes: &[u8]) -> u32
+    requires { length bytes.now ≡ 4096 }
+    ensures { (i : ℕ) → i < 1024 → entry_of bytes.now i ≤ result }
+{
+    let mut most = 0_u32;
+    for i in 0..NUMBERS {
+        most = most.max(number(bytes, 4 * i as usize));
+    }
+    most
+}
+
+// Among numbers, of which the first `used` are up to a limit and the others 0. Where all are used, a page
+// without a fault is passed several numbers at a time.
 fn number_fault(bytes: &[u8], used: u32, limit: u32) -> Option<u32>
     requires { length bytes.now ≡ 4096 }
     ensures { IsFirstFault (IsNumberEntry used limit bytes.now) 1024 result }
 {
+    if used >= NUMBERS && largest(bytes) <= limit {
+        return None;
+    }
     for i in 0..NUMBERS {
         let most = if i < used { limit } else { 0 };
         if number(bytes, 4 * i as usize) > most {

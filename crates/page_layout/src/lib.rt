@@ -14,7 +14,7 @@ mod superblock;
 mod tests;
 mod zeros;
 
-pub use entries::{count_entry, map_entry, set_count_entry, set_map_entry};
+pub use entries::{count_entry, map_entry, set_count_entry, set_map_entry, used_entries};
 pub use faults::{MAX_COUNT, table_fault};
 pub use prints::{print_entry, set_print_entry};
 pub use shape::{BadShape, Shape, Table};

@@ -1,14 +1,37 @@
-use Rattle.std.proofs.Common.{◌≡◌, ℕ, ◌+◌, ◌-◌, ◌*◌, min, List, length, refl, sym, ◌∙◌, ap, subst, arith, add-one}
+use Rattle.std.proofs.Common.{◌≡◌, ℕ, ◌+◌, ◌-◌, ◌*◌, ◌<◌, ◌≤◌, min, List, length, refl, sym, ◌∙◌, ap, subst, arith, add-one}
 use Rattle.std.proofs.lemmas.List.{length-replicate}
 use Rattle.page_device.specs.Block.{Block}
 use Rattle.page_device.specs.Disk.{newest}
-use Rattle.page_layout.specs.Tables.{page_of}
+use Rattle.page_layout.specs.declared.shape.Table.TheVariants.{Map}
+use Rattle.page_layout.specs.Numbers.{entry_of}
+use Rattle.page_layout.specs.Shape.{first_count_page, map_page, map_place}
+use Rattle.page_layout.specs.Tables.{page_of, map_of}
+use Rattle.page_layout.proofs.TablePages.{page_of_entries}
+use Rattle.image_reader.specs.Tallies.{AreNamesOf, NamesTo}
+use Rattle.image_reader.proofs.Naming.{names_start}
+use Rattle.image_reader.proofs.TablesAt.{map_table}
 use Rattle.image_reader.proofs.Looking.{looked_none, looked_then, held_before}
-use Rattle.image_check.specs.Steps.{FormedBelow, NamesTo}
+use Rattle.image_check.specs.Steps.{FormedBelow}
 use Rattle.image_check.proofs.Stopped.{stop_before}
 use Rattle.image_check.proofs.Malformed.{formed_more}
-use Rattle.image_check.proofs.Naming.{names_start}
 use Rattle.image_check.proofs.maps.tally_maps.Goals as goal
+
+-- the names of the blocks of a map page
+names_here : (image : List Block) (page : Block) (k : ℕ) → 1 ≤ k → page_of image k ≡ page → AreNamesOf page (k - 1) (map_of image)
+names_here image page k low read = record {
+  each = λ i lt.
+      let at : map_page (1024 * (k - 1) + i) ≡ k = omega (arith, lt, low) in
+      let place : map_place (1024 * (k - 1) + i) ≡ i = omega (arith, lt) in
+      ap (λ (n : ℕ). entry_of (page_of image n) (map_place (1024 * (k - 1) + i))) at ∙ ap (entry_of (page_of image k)) place ∙ ap (λ (b : Block). entry_of b i) read;
+}
+
+pub tally_page-mapped-requires-clause-entries : goal.tally_page-mapped-requires-clause-entries
+tally_page-mapped-requires-clause-entries g c =
+    let shape = c.args.shape.now in
+    let k = c.loop-k.k in
+    let low : 1 ≤ k = c.loop-k.auto.k in
+    let high : k < first_count_page shape = omega (arith, c.loop-k-test.true, c.first_count_page-k-end.ensures.place) in
+    page_of_entries Map shape k c.in-Ok.page (c.in-Ok.ensures.entries Map (map_table shape k low high))
 
 pub loop-k-init : goal.loop-k-init
 loop-k-init g c =
@@ -20,7 +43,7 @@ loop-k-init g c =
       faults = omega arith;
       length = ap length c.requires.zeros ∙ length-replicate shape.pages 0;
       formed = λ honest tells below. below;
-      names = λ honest tells. subst (λ (n : ℕ). NamesTo shape.pages n (newest (g.D.Device.seen c.args.device.now).state) c.args.tallies.now.items 0) none (names_start shape.pages (newest (g.D.Device.seen c.args.device.now).state) c.args.tallies.now.items c.requires.zeros);
+      names = λ honest tells. subst (λ (n : ℕ). NamesTo shape.pages n (map_of (newest (g.D.Device.seen c.args.device.now).state)) c.args.tallies.now.items 0) none (names_start shape.pages (map_of (newest (g.D.Device.seen c.args.device.now).state)) c.args.tallies.now.items c.requires.zeros);
     }
 
 pub returns-in-Err-clause-cause : goal.returns-in-Err-clause-cause
@@ -51,8 +74,8 @@ loop-k-preserved g c =
           subst (λ (n : ℕ). FormedBelow n shape image) (sym (add-one k)) (formed_more shape image k c.in-Ok.page read c.in-Ok.ensures.entries (inv.formed honest tells below));
       names = λ honest tells.
           let read : page_of image k ≡ c.in-Ok.page = held_before (λ (i : List Block). page_of i k ≡ c.in-Ok.page) d0 d1 inv.looked c.in-Ok.ensures.read honest tells in
-          let so_far : min shape.blocks (1024 * (k - 1)) ≡ 1024 * (k - 1) = omega (arith, c.loop-k.auto, c.loop-k-test.true, c.first_count_page-k-end.ensures.place) in
-          let next : min shape.blocks (1024 * k) ≡ min shape.blocks (1024 * (k + 1 - 1)) = omega (arith, c.loop-k.auto) in
-          subst (λ (n : ℕ). NamesTo shape.pages n image c.tally_page-mapped.new.tallies.items c.tally_page-mapped.result) next
-          (c.tally_page-mapped.ensures.names image read (subst (λ (n : ℕ). NamesTo shape.pages n image c.loop-k.tallies.items c.loop-k.mapped) so_far (inv.names honest tells)));
+          let low : 1 ≤ k = c.loop-k.auto.k in
+          let next : min shape.blocks (1024 * (k - 1 + 1)) ≡ min shape.blocks (1024 * (k + 1 - 1)) = omega (arith, low) in
+          subst (λ (n : ℕ). NamesTo shape.pages n (map_of image) c.tally_page-mapped.new.tallies.items c.tally_page-mapped.result) next
+          (c.tally_page-mapped.ensures.names (map_of image) (names_here image c.in-Ok.page k low read) (inv.names honest tells));
     }

@@ -1,6 +1,8 @@
 use Rattle.std.proofs.Common.{◌≡◌, ◌≤◌, ◌*◌, ◌-◌, min, length}
 use Rattle.image_reader.specs.Looked.{Looked, Holds}
-use Rattle.image_check.specs.Steps.{FormedBelow, NamesTo}
+use Rattle.page_layout.specs.Tables.{map_of}
+use Rattle.image_reader.specs.Tallies.{NamesTo}
+use Rattle.image_check.specs.Steps.{FormedBelow}
 use Rattle.image_check.proofs.maps.tally_maps.Given as goal
 
 abbrev pub invariant-loop-k : goal.invariant-loop-k
@@ -12,5 +14,5 @@ invariant-loop-k g l =
       faults : (seen l.fn.device).faults ≤ (seen l.device).faults;
       length : length l.tallies.items ≡ l.fn.shape.pages;
       formed : Holds (λ image. FormedBelow 1 l.fn.shape image → FormedBelow l.k l.fn.shape image) (seen l.fn.device);
-      names : Holds (λ image. NamesTo l.fn.shape.pages (min l.fn.shape.blocks (1024 * (l.k - 1))) image l.tallies.items l.mapped) (seen l.fn.device);
+      names : Holds (λ image. NamesTo l.fn.shape.pages (min l.fn.shape.blocks (1024 * (l.k - 1))) (map_of image) l.tallies.items l.mapped) (seen l.fn.device);
     }

@@ -1,4 +1,4 @@
-use Rattle.std.proofs.Common.{ℕ, List, Ok, ◌∙◌, ap, sym, subst, refl}
+use Rattle.std.proofs.Common.{ℕ, List, Ok, ◌∙◌, ap, subst, refl}
 use Rattle.session.specs.declared.status.Status.TheVariants.{Done}
 use Rattle.session.specs.Endings.{LinePut}
 use Rattle.session.specs.Run.{formatted}
