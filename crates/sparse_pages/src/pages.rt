@@ -47,9 +47,9 @@ fn own_place(places: &mut Vec<u32>, kept: &mut Vec<Page>, j: u32) -> u32
     ensures places { vec_capacity places.new ≡ vec_capacity places.old }
     ensures room { vec_capacity kept.new ≡ vec_capacity kept.old }
 {
-    let shared = places[j as usize];
-    if shared != 0 {
-        return shared;
+    let place = places[j as usize];
+    if place != 0 {
+        return place;
     }
     let own = kept.len() as u32;
     places[j as usize] = own;

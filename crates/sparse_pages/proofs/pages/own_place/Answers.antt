@@ -9,7 +9,7 @@ pub push_reserved-requires : goal.push_reserved-requires
 push_reserved-requires c =
     let places = c.args.places.now.items in
     let j = c.args.j in
-    let shares : slice_index_or places j 0 ≡ 0 = get_or_default places j 0 c.index-shared.result.now c.requires.page ∙ sym c.index-shared.ensures ∙ c.if-shared-ne0.false in
+    let shares : slice_index_or places j 0 ≡ 0 = get_or_default places j 0 c.index-place.result.now c.requires.page ∙ sym c.index-place.ensures ∙ c.if-place-ne0.false in
     omega (arith, c.args.kept.now.ok, kept_few places c.args.kept.now.items j c.requires.kept c.requires.page shares, c.requires.room)
 
 pub returns-clause-kept : goal.returns-clause-kept
@@ -17,7 +17,7 @@ returns-clause-kept c =
     let places = c.args.places.now.items in
     let kept = c.args.kept.now.items in
     let j = c.args.j in
-    let shares : slice_index_or places j 0 ≡ 0 = get_or_default places j 0 c.index-shared.result.now c.requires.page ∙ sym c.index-shared.ensures ∙ c.if-shared-ne0.false in
+    let shares : slice_index_or places j 0 ≡ 0 = get_or_default places j 0 c.index-place.result.now c.requires.page ∙ sym c.index-place.ensures ∙ c.if-place-ne0.false in
     let own : length kept ≡ c.len-own.result = omega (arith, c.args.kept.now.ok, c.len-own.ensures) in
     let items : kept ++ zero_block ∷ [] ≡ c.push_reserved.new.self.items = ap (λ (b : Block). kept ++ b ∷ []) (sym c.zero.ensures) ∙ sym c.push_reserved.ensures.items in
     subst (λ (n : ℕ). AreKept (slice_set places j n) c.push_reserved.new.self.items) own
@@ -28,7 +28,7 @@ returns-clause-pages c =
     let places = c.args.places.now.items in
     let kept = c.args.kept.now.items in
     let j = c.args.j in
-    let shares : slice_index_or places j 0 ≡ 0 = get_or_default places j 0 c.index-shared.result.now c.requires.page ∙ sym c.index-shared.ensures ∙ c.if-shared-ne0.false in
+    let shares : slice_index_or places j 0 ≡ 0 = get_or_default places j 0 c.index-place.result.now c.requires.page ∙ sym c.index-place.ensures ∙ c.if-place-ne0.false in
     let own : length kept ≡ c.len-own.result = omega (arith, c.args.kept.now.ok, c.len-own.ensures) in
     let items : kept ++ zero_block ∷ [] ≡ c.push_reserved.new.self.items = ap (λ (b : Block). kept ++ b ∷ []) (sym c.zero.ensures) ∙ sym c.push_reserved.ensures.items in
     subst (λ (n : ℕ). pages_at (slice_set places j n) c.push_reserved.new.self.items ≡ pages_at places kept) own
