@@ -103,7 +103,8 @@ fn print_fault(bytes: &[u8], used: u32) -> Option<u32>
     None
 }
 
-// The entry is a well-formed print, and where it is not used, zeros.
+// The entry is a well-formed print, and where it is not used, zeros. Its flag and the three bytes behind it are read as
+// one number.
 fn is_print(bytes: &[u8], i: u32, used: bool) -> bool
     requires length { length bytes.now ≡ 4096 }
     requires within { i < 170 }
@@ -111,9 +112,9 @@ fn is_print(bytes: &[u8], i: u32, used: bool) -> bool
     ensures rest { used ≡ false → (IsTrue result ↔ AreZero bytes.now (24 * i) (24 * i + 24)) }
 {
     let at = 24 * i as usize;
-    match bytes[at] {
-        0 => are_zero(bytes, at + 1, at + 24),
-        1 => used && are_zero(bytes, at + 1, at + 4),
+    match number(bytes, at) {
+        0 => are_zero(bytes, at + 4, at + 24),
+        1 => used,
         _ => false,
     }
 }

@@ -1,6 +1,6 @@
-use Rattle.std.proofs.Common.{◌≡◌, ◌<◌, ℕ, length, slice_index, sym, ◌∙◌, ap, arith}
+use Rattle.std.proofs.Common.{◌≡◌, ◌<◌, ℕ, length, length-take, slice_index, sym, ◌∙◌, ap, arith, true≢false}
 use Rattle.std.proofs.lemmas.Bool.{eq-eqb, eqb-true}
-use Rattle.std.proofs.lemmas.List.{ext_get_or, get_or-replicate, length-replicate}
+use Rattle.std.proofs.lemmas.List.{ext_get_or, get_or-replicate, get_or-take, length-replicate}
 use Rattle.page_device.specs.Block.{Block, zero_block}
 use Rattle.page_device.proofs.block.Page.is_zero.Goals as goal
 
@@ -16,4 +16,13 @@ returns-clause-zero c =
     let whole : length c.self.inside.0 ≡ 4096 = c.self.invariant in (
       λ none. sym c.self.view_is ∙ zero_bytes c.self.inside.0 whole (c.some_bits.ensures.none (eqb-true c.some_bits.result 0 none)),
       λ is. eq-eqb c.some_bits.result 0 (c.some_bits.ensures.all (λ i lt. bytes_zero c.self.inside.0 (c.self.view_is ∙ is) i (omega (arith, lt, whole)))),
+    )
+
+pub returns-then-front-ne0-clause-zero : goal.returns-then-front-ne0-clause-zero
+returns-then-front-ne0-clause-zero c =
+    let block = c.self.inside.0 in (
+      λ no. absurd (true≢false (sym no)),
+      λ is. absurd (c.if-front-ne0.true (c.some_bits-front.ensures.all (λ i lt.
+          let below : i < 64 = omega (arith, lt, length-take 64 block) in
+          get_or-take 64 block i 0 below ∙ bytes_zero block (c.self.view_is ∙ is) i (omega (arith, below))))),
     )
