@@ -1,5 +1,6 @@
 -- One call of a device that tells everything.
-use Rattle.std.proofs.Common.{◌≡◌, ℕ, ◌+◌, ◌^◌, ◌<◌, List, [], ◌∷◌, ◌++◌, length, replicate, refl, sym, ◌∙◌, ap, subst, arith, length-append}
+use Rattle.std.proofs.Common.{◌≡◌, ℕ, ◌+◌, ◌^◌, ◌<◌, List, [], ◌∷◌, ◌++◌, length, replicate, refl, sym, ◌∙◌, ap, subst, arith, length-append, ⊎_elim, ◌≤◌}
+use Rattle.std.proofs.lemmas.Bool.{cases_lt}
 use Rattle.page_device.specs.declared.device.End.{End}
 use Rattle.page_device.specs.declared.device.LogEntry.{LogEntry}
 use Rattle.page_device.specs.declared.device.LogEntry.TheVariants.{Write, Flush}
@@ -21,7 +22,8 @@ unfolding state_after
 kept_call IsEntry m n entry is start all reads lies = record {
   entry = entry;
   is = is;
-  grows = λ _. omega (arith, ap length all, length-append m.all (entry ∷ []));
+  grows = λ _. let longer : length n.all ≡ length m.all + 1 = omega (arith, ap length all, length-append m.all (entry ∷ [])) in
+      record { never_falls = omega (arith, longer); at_most = omega (arith, longer); counted = λ _. longer };
   log = λ _ _. all;
   state = λ _. ap (λ (l : List LogEntry). state_after (at_rest n.start) l) all ∙ ap (λ (s : List Block). state_after (at_rest s) (m.all ++ entry ∷ [])) start ∙ state_after-append (at_rest m.start) m.all (entry ∷ []);
   reads = λ _. reads;
@@ -30,13 +32,20 @@ kept_call IsEntry m n entry is start all reads lies = record {
 }
 
 -- calls for whose entries no memory was found stand as one that is refused
-pub lost_calls : (m n : MemoryView) → n.start ≡ m.start → (length n.all + 1 < 2 ^ 64 → n.all ≡ m.all ++ lost_call ∷ []) → (k : ℕ) × (n.all ≡ m.all ++ replicate k lost_call) → n.reads ≡ m.reads → n.lies ≡ m.lies
+pub lost_calls : (m n : MemoryView) → n.start ≡ m.start → (length n.all + 1 < 2 ^ 64 → n.all ≡ m.all ++ lost_call ∷ []) → length n.all ≤ length m.all + 1 → (k : ℕ) × (n.all ≡ m.all ++ replicate k lost_call) → n.reads ≡ m.reads → n.lies ≡ m.lies
     → OneCall IsRefused (memory_seen m) (memory_seen n)
 unfolding after
-lost_calls m n start counted some reads lies = record {
+lost_calls m n start counted one some reads lies = record {
   entry = lost_call;
   is = refl;
-  grows = λ _. omega (arith, ap length some.1, length-append m.all (replicate some.0 lost_call));
+  grows = λ _. record {
+    never_falls = omega (arith, ap length some.1, length-append m.all (replicate some.0 lost_call));
+    at_most = one;
+    counted = λ few. ⊎_elim
+        (λ room. omega (arith, ap length (counted room), length-append m.all (lost_call ∷ [])))
+        (λ full. omega (arith, few, full, one))
+        (cases_lt (length n.all + 1) (2 ^ 64));
+  };
   log = λ _ h. counted h;
   state = λ _. ap (λ (l : List LogEntry). state_after (at_rest n.start) l) some.1 ∙ ap (λ (s : List Block). state_after (at_rest s) (m.all ++ replicate some.0 lost_call)) start ∙ state_lost (at_rest m.start) m.all some.0;
   reads = λ _. reads;

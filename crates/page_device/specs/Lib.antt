@@ -1,5 +1,6 @@
 pub mod Block
 pub mod Disk
+pub mod Counts
 pub mod Chosen
 pub mod Meaning
 pub mod Images

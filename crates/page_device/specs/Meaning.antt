@@ -6,6 +6,7 @@ use Rattle.page_device.specs.declared.device.LogEntry.TheVariants.{Write, Flush}
 use Rattle.page_device.specs.declared.error.Failed.{Failed}
 use Rattle.page_device.specs.Block.{Block, zero_block}
 use Rattle.page_device.specs.Disk.{DeviceState, after, with_room}
+use Rattle.page_device.specs.Counts.{Rises}
 
 -- what a device tells of itself
 pub record Meaning : Type 0 where
@@ -54,11 +55,11 @@ FlushEntry (Err _) entry = IsRefused entry
 abbrev pub IsCounted : Meaning → Type 0
 IsCounted m = length m.log + 1 < 2 ^ 64
 
--- the call that is this entry of the log
+-- the call that is this entry of the log, which grows by it alone
 pub record OneCall (IsEntry : LogEntry → Type 0) (old new : Meaning) : Type 0 where
   pub entry : LogEntry
   pub is : IsEntry entry
-  pub grows : old.tells_log ≡ true → length old.log ≤ length new.log
+  pub grows : old.tells_log ≡ true → Rises 1 (length old.log) (length new.log)
   pub log : old.tells_log ≡ true → IsCounted new → new.log ≡ old.log ++ entry ∷ []
   pub state : old.tells_pages ≡ true → new.state ≡ after old.state entry
   pub reads : old.tells_reads ≡ true → new.reads ≡ old.reads

@@ -6,6 +6,7 @@ use Rattle.page_device.specs.declared.device.LogEntry.{LogEntry}
 use Rattle.page_device.specs.Block.{Block}
 use Rattle.page_device.specs.Disk.{DeviceState, IsImage, after, state_after}
 use Rattle.page_device.specs.Meaning.{Meaning, SameKind, IsCounted, OneCall, OneRead}
+use Rattle.page_device.specs.Counts.{Rises, rises_none, rises_then}
 
 -- each image of the state has P
 abbrev pub EachImage : (List Block → Type 0) → DeviceState → Type 0
@@ -19,7 +20,7 @@ EachMoment P s (call ∷ calls) = EachImage P s × EachMoment P (after s call) c
 -- A crash at any moment from old to new leaves an image that has P.
 pub record Leaves (old new : Meaning) (P : List Block → Type 0) : Type 0 where
   pub calls : List LogEntry
-  pub grows : old.tells_log ≡ true → length old.log ≤ length new.log
+  pub grows : old.tells_log ≡ true → Rises (length calls) (length old.log) (length new.log)
   pub log : old.tells_log ≡ true → IsCounted new → new.log ≡ old.log ++ calls
   pub state : old.tells_pages ≡ true → new.state ≡ state_after old.state calls
   pub each : EachMoment P old.state calls
@@ -58,7 +59,7 @@ pub leaves_start : (old : Meaning) (P : List Block → Type 0) → EachImage P o
 unfolding EachMoment state_after
 leaves_start old P here = record {
   calls = [];
-  grows = λ _. omega arith;
+  grows = λ _. rises_none (length old.log);
   log = λ _ _. sym (append-nil old.log);
   state = λ _. refl;
   each = here;
@@ -69,8 +70,8 @@ leaves_start old P here = record {
 pub leaves_then : (old mid new : Meaning) (P Q : List Block → Type 0) → old.tells_pages ≡ true → Leaves old mid P → ((i : List Block) → Q i → P i) → Leaves mid new Q → Leaves old new P
 leaves_then old mid new P Q tells so_far f next = record {
   calls = so_far.calls ++ next.calls;
-  grows = λ t. omega (arith, so_far.grows t, next.grows (so_far.kind.tells_log ∙ t));
-  log = λ t counted. next.log (so_far.kind.tells_log ∙ t) counted ∙ ap (λ (l : List LogEntry). l ++ next.calls) (so_far.log t (omega (arith, counted, next.grows (so_far.kind.tells_log ∙ t)))) ∙ append_assoc old.log so_far.calls next.calls;
+  grows = λ t. subst (λ (n : ℕ). Rises n (length old.log) (length new.log)) (sym (length-append so_far.calls next.calls)) (rises_then (length so_far.calls) (length next.calls) _ _ _ (so_far.grows t) (next.grows (so_far.kind.tells_log ∙ t)));
+  log = λ t counted. next.log (so_far.kind.tells_log ∙ t) counted ∙ ap (λ (l : List LogEntry). l ++ next.calls) (so_far.log t (omega (arith, counted, (next.grows (so_far.kind.tells_log ∙ t)).never_falls))) ∙ append_assoc old.log so_far.calls next.calls;
   state = λ t. next.state (so_far.kind.tells_pages ∙ t) ∙ ap (λ (s : DeviceState). state_after s next.calls) (so_far.state t) ∙ sym (state_after-append old.state so_far.calls next.calls);
   each = each-append P old.state so_far.calls next.calls so_far.each (subst (λ (s : DeviceState). EachMoment P s next.calls) (so_far.state tells) (each-weaker Q P mid.state next.calls f next.each));
   kind = kind_then old mid new so_far.kind next.kind;
@@ -116,7 +117,7 @@ pub leaves_read : (old new : Meaning) (P : List Block → Type 0) → OneRead ol
 unfolding EachMoment state_after
 leaves_read old new P read here = record {
   calls = [];
-  grows = λ t. omega (arith, ap length (read.log t));
+  grows = λ t. subst (λ (l : List LogEntry). Rises 0 (length old.log) (length l)) (sym (read.log t)) (rises_none (length old.log));
   log = λ t _. read.log t ∙ sym (append-nil old.log);
   state = read.state;
   each = here;

@@ -77,6 +77,7 @@ impl Log {
     pub fn lose(&mut self)
         ensures counted { length self.new.all + 1 < 2 ^ 64 → self.new.all ≡ self.old.all ++ lost_call ∷ [] }
         ensures some { (n : ℕ) × (self.new.all ≡ self.old.all ++ replicate n lost_call) }
+        ensures one { length self.new.all ≤ length self.old.all + 1 }
         ensures kept { self.new.kept ≡ self.old.kept }
         ensures spare { self.new.spare ≡ self.old.spare }
     {

@@ -304,6 +304,7 @@ impl MemDevice {
     fn lose(&mut self)
         ensures counted { length self.new.all + 1 < 2 ^ 64 → self.new.all ≡ self.old.all ++ lost_call ∷ [] }
         ensures some { (n : ℕ) × (self.new ≡ record self.old { all = self.old.all ++ replicate n lost_call }) }
+        ensures one { length self.new.all ≤ length self.old.all + 1 }
     {
         self.log.lose();
     }

@@ -124,9 +124,9 @@ module _ (s : Start) where
       record {
         leave = leave-last m rules s.array s.device.state works work did.leave moments images;
         state = state ∙ sym (state_after-append s.device.state (calls_done s works) (calls_of work)) ∙ ap (state_after s.device.state) (sym (calls-last m rules works work));
-        grows = λ t. omega (arith, did.grows t, call.leaves.grows (did.kind.tells_log ∙ t));
+        grows = λ t. omega (arith, did.grows t, (call.leaves.grows (did.kind.tells_log ∙ t)).never_falls);
         log = λ t few. call.leaves.log (did.kind.tells_log ∙ t) few
-            ∙ ap (λ (l : List LogEntry). l ++ call.leaves.calls) (did.log t (omega (arith, few, call.leaves.grows (did.kind.tells_log ∙ t))))
+            ∙ ap (λ (l : List LogEntry). l ++ call.leaves.calls) (did.log t (omega (arith, few, (call.leaves.grows (did.kind.tells_log ∙ t)).never_falls)))
             ∙ ap (λ (l : List LogEntry). (s.device.log ++ calls_done s works) ++ l) (sym is_calls)
             ∙ append_assoc s.device.log (calls_done s works) (calls_of work) ∙ ap (λ (l : List LogEntry). s.device.log ++ l) (sym (calls-last m rules works work));
         kind = same_kind s.device d e did.kind call.leaves.kind;

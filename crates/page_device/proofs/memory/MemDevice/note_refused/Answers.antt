@@ -16,4 +16,4 @@ pub returns-clause-call : goal.returns-clause-call
 returns-clause-call c = let same = c.if-keep_quiet.ensures.same in
     let some = c.lose.ensures.some in
     subst (λ (m : MemoryView). OneCall IsRefused (memory_seen m) (memory_seen c.lose.new.self)) same
-    (lost_calls c.keep_quiet.new.self c.lose.new.self (ap (λ (v : MemoryView). v.start) some.1) c.lose.ensures.counted (some.0, ap (λ (v : MemoryView). v.all) some.1) (ap (λ (v : MemoryView). v.reads) some.1) (ap (λ (v : MemoryView). v.lies) some.1))
+    (lost_calls c.keep_quiet.new.self c.lose.new.self (ap (λ (v : MemoryView). v.start) some.1) c.lose.ensures.counted c.lose.ensures.one (some.0, ap (λ (v : MemoryView). v.all) some.1) (ap (λ (v : MemoryView). v.reads) some.1) (ap (λ (v : MemoryView). v.lies) some.1))
