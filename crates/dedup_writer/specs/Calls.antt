@@ -2,7 +2,7 @@
 use Rattle.std.specs.Prelude.{◌≡◌, ℕ, ◌+◌, ◌<◌, ◌≤◌, ◌^◌, length, slice_set, true, false, if◌then◌else◌, Option, Result, Ok, Err, is_err}
 use Rattle.page_device.specs.Block.{Block, zero_block}
 use Rattle.page_device.specs.declared.error.Failed.{Failed}
-use Rattle.page_device.specs.Meaning.{Meaning}
+use Rattle.page_device.specs.Meaning.{Meaning, FaultRose}
 use Rattle.page_device.specs.Moments.{Leaves}
 use Rattle.page_layout.specs.Numbers.{SetsEntry}
 use Rattle.page_layout.specs.Shape.{map_page, map_place, count_page, count_place}
@@ -39,10 +39,6 @@ after_flush (Err _) a = a
 -- every data page is counted
 abbrev pub AllCounted : CoreView → Type 0
 AllCounted core = (p : ℕ) → 1 ≤ p → p ≤ core.tables.shape.pages → 1 ≤ cached_count core.tables p
-
--- the device counted a fault
-abbrev pub FaultRose : Meaning → Meaning → Type 0
-FaultRose old new = old.faults + 1 < 2 ^ 64 → old.faults < new.faults
 
 -- why a write is refused: this body never reads a table page and takes no memory
 abbrev pub WriteCause : Refusal → ℕ → CoreView → Meaning → Meaning → Type 0

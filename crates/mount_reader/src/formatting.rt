@@ -1,11 +1,10 @@
 // A new image is laid out.
 ghost use Rattle.std.specs.Prelude.{◌≡◌, ◌↔◌, ◌⊎◌, ◌≤◌, ◌<◌, true, length, Ok, Err};
 ghost use Rattle.page_device.specs.Block.{zero_block};
-ghost use Rattle.page_device.specs.Meaning.{HasCause, IsUntouched};
+ghost use Rattle.page_device.specs.Meaning.{HasCause, IsUntouched, FaultRose};
 ghost use Rattle.page_device.specs.Moments.{EachImage};
 ghost use Rattle.page_device.specs.Possible.{Only};
 ghost use Rattle.page_layout.specs.Shape.{total};
-ghost use Rattle.dedup_writer.specs.Calls.{FaultRose};
 ghost use Rattle.dedup_writer.specs.Put.{PutsPage};
 ghost use Rattle.mount_reader.specs.Format.{IsNew, LaysOut, Clears, Formats};
 

@@ -6,7 +6,7 @@ use Rattle.page_device.specs.declared.device.LogEntry.TheVariants.{Write, Flush}
 use Rattle.page_device.specs.declared.error.Failed.{Failed}
 use Rattle.page_device.specs.Block.{Block, zero_block}
 use Rattle.page_device.specs.Disk.{DeviceState, after, with_room}
-use Rattle.page_device.specs.Counts.{Rises}
+use Rattle.page_device.specs.Counts.{Rises, raised}
 
 -- what a device tells of itself
 pub record Meaning : Type 0 where
@@ -31,10 +31,14 @@ pub record SameKind (old new : Meaning) : Type 0 where
   pub tells_log : new.tells_log ≡ old.tells_log
   pub tells_reads : new.tells_reads ≡ old.tells_reads
 
--- an error is a counted fault; a count at its end may stand still
+-- of one call or of many: an error is a counted fault; a count at its end may stand still
 pub record HasCause {T E : Type 0} (result : Result T E) (old new : Meaning) : Type 0 where
   pub never_falls : old.faults ≤ new.faults
   pub failed : IsErr result → old.faults + 1 < 2 ^ 64 → old.faults < new.faults
+
+-- the device counted a fault; a count at its end may stand still
+abbrev pub FaultRose : Meaning → Meaning → Type 0
+FaultRose old new = old.faults + 1 < 2 ^ 64 → old.faults < new.faults
 
 -- an entry that ended refused, of whatever call
 abbrev pub IsRefused : LogEntry → Type 0
@@ -70,7 +74,7 @@ pub record OneCall (IsEntry : LogEntry → Type 0) (old new : Meaning) : Type 0 
 pub record OneRead (old new : Meaning) : Type 0 where
   pub log : old.tells_log ≡ true → new.log ≡ old.log
   pub state : old.tells_pages ≡ true → new.state ≡ old.state
-  pub reads : old.tells_reads ≡ true → old.reads + 1 < 2 ^ 64 → new.reads ≡ old.reads + 1
+  pub reads : old.tells_reads ≡ true → new.reads ≡ raised old.reads 1
   pub pages : new.pages ≡ old.pages
   pub kind : SameKind old new
 

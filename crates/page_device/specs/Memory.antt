@@ -1,5 +1,5 @@
 -- A device in memory as plain data: what callers see of it, and how its start is found again.
-use Rattle.std.specs.Prelude.{◌≡◌, ℕ, suc, cond, nat_le, ◌+◌, ◌-◌, ◌<◌, ◌≤◌, ◌==◌, min, Bool, true, false, List, [], ◌∷◌, ◌++◌, length, replicate, reverse, find, slice_set, Option, None, IsSome, Result, IsOk, IsErr}
+use Rattle.std.specs.Prelude.{◌≡◌, ℕ, suc, cond, nat_le, ◌+◌, ◌-◌, ◌<◌, ◌≤◌, ◌==◌, Bool, true, false, List, [], ◌∷◌, ◌++◌, length, replicate, reverse, find, slice_set, Option, None, IsSome, Result, IsOk, IsErr}
 use Rattle.std.specs.Option.{option_map}
 use Rattle.std.specs.List.{list_any}
 use Rattle.page_device.specs.declared.device.End.TheVariants.{Done, Refused, Taken}
@@ -8,6 +8,7 @@ use Rattle.page_device.specs.declared.device.LogEntry.TheVariants.{Write, Flush}
 use Rattle.page_device.specs.declared.memory.Lie.{Lie}
 use Rattle.page_device.specs.declared.memory.Plan.{Plan}
 use Rattle.page_device.specs.Block.{Block}
+use Rattle.page_device.specs.Counts.{raised}
 use Rattle.page_device.specs.Disk.{state_after, at_rest, newest}
 use Rattle.page_device.specs.Possible.{length-state_after}
 
@@ -115,7 +116,7 @@ IsQuiet (Flush end) = Unit {0}
 
 -- a write or barrier fails where it is planned, and only there where there was room for its entry
 pub record FollowsPlan {E : Type 0} (result : Result Unit E) (old new : MemoryView) : Type 0 where
-  pub calls : new.calls ≡ min (old.calls + 1) 18446744073709551615
+  pub calls : new.calls ≡ raised old.calls 1
   pub plans : new.plans ≡ old.plans
   pub spare : old.spare ≤ new.spare + 1
   pub planned : IsSome (plan_for old.plans new.calls) → IsErr result

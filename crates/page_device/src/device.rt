@@ -1,7 +1,8 @@
 // A device as everything above sees it.
 ghost use Rattle.std.specs.Prelude.{◌≡◌, ◌<◌, ◌≤◌, true, length, slice_get, OnOk, OnErr};
 ghost use Rattle.page_device.specs.Disk.{newest};
-ghost use Rattle.page_device.specs.Meaning.{Meaning, HasCause, OneCall, OneRead, WriteEntry, FlushEntry, Grows, IsUntouched};
+ghost use Rattle.page_device.specs.Counts.{OneFault};
+ghost use Rattle.page_device.specs.Meaning.{Meaning, OneCall, OneRead, WriteEntry, FlushEntry, Grows, IsUntouched};
 
 use crate::{Failed, Page};
 
@@ -29,8 +30,9 @@ pub enum LogEntry {
 /// since the last successful barrier. A read gives the newest one. A crash leaves, for each page by
 /// itself, the fixed content or any one of those written since. `docs/DEFINITIONS.md` reads this aloud.
 ///
-/// Each call that answers `Failed` has raised the device's count of faults. What a device tells of
-/// itself (its pages, its log, its reads) is a meaning that no call changes.
+/// Each call that answers `Failed` raises the device's count of faults by one, and no other call changes it. What
+/// a device tells of itself (its pages, its log, its reads) is a meaning that no call changes. A count stands still
+/// at its end.
 pub trait Device {
     /// What it tells of itself.
     ghost seen: { Self → Meaning };
@@ -43,14 +45,14 @@ pub trait Device {
     /// `room(0)` asks for no page and lets a device be opened. A failed call changes nothing but the
     /// count of faults.
     fn room(&mut self, pages: u32) -> Result<(), Failed>
-        ensures cause { HasCause result (seen self.old) (seen self.new) }
+        ensures cause { OneFault result (seen self.old).faults (seen self.new).faults }
         ensures grown { OnOk result (Grows pages (seen self.old) (seen self.new)) }
         ensures untouched { OnErr result (IsUntouched (seen self.old) (seen self.new)) };
 
     /// Reads a page. After `Failed` nothing is known of `into`.
     fn read(&mut self, page: u32, into: &mut Page) -> Result<(), Failed>
         requires { page < (seen self.old).pages }
-        ensures cause { HasCause result (seen self.old) (seen self.new) }
+        ensures cause { OneFault result (seen self.old).faults (seen self.new).faults }
         ensures kept { OneRead (seen self.old) (seen self.new) }
         ensures newest { OnOk result ((seen self.old).honest ≡ true → (seen self.old).tells_pages ≡ true
             → slice_get (newest (seen self.old).state) page ≡ Some into.new) };
@@ -58,12 +60,12 @@ pub trait Device {
     /// Writes a whole page. After `Failed` the content may be on the disk or not.
     fn write(&mut self, page: u32, from: &Page) -> Result<(), Failed>
         requires { page < (seen self.old).pages }
-        ensures cause { HasCause result (seen self.old) (seen self.new) }
+        ensures cause { OneFault result (seen self.old).faults (seen self.new).faults }
         ensures call { OneCall (WriteEntry page from.now result) (seen self.old) (seen self.new) };
 
     /// The barrier: fixes the newest content of every page. A failed one changes nothing.
     fn flush(&mut self) -> Result<(), Failed>
-        ensures cause { HasCause result (seen self.old) (seen self.new) }
+        ensures cause { OneFault result (seen self.old).faults (seen self.new).faults }
         ensures call { OneCall (FlushEntry result) (seen self.old) (seen self.new) };
 
     /// Where it tells its pages, there are so many of them.

@@ -1,7 +1,8 @@
 // A file or a block device node as a device. It tells no content: this is the trusted edge.
 ghost use Rattle.std.specs.Prelude.{◌≡◌, ◌<◌, ◌≤◌, ◌+◌, ◌^◌, Some, true, false, slice_get, IsSome, IsErr, OnOk, OnErr, IfOk};
 ghost use Rattle.page_device.specs.Disk.{newest};
-ghost use Rattle.page_device.specs.Meaning.{HasCause, OneCall, OneRead, WriteEntry, FlushEntry, Grows, IsUntouched};
+ghost use Rattle.page_device.specs.Counts.{OneFault};
+ghost use Rattle.page_device.specs.Meaning.{OneCall, OneRead, WriteEntry, FlushEntry, Grows, IsUntouched};
 ghost use Rattle.page_device.specs.FileSeen.{file_seen, no_pages};
 
 use crate::{Device, Failed, Page};
@@ -218,7 +219,7 @@ impl<'r, R: Files> FileDevice<'r, R> {
     // Counts a fault, where there is one.
     fn counted(&mut self, done: Result<(), Failed>) -> Result<(), Failed>
         ensures result { result ≡ done }
-        ensures cause { HasCause result (file_seen self.old.pages self.old.faults) (file_seen self.new.pages self.new.faults) }
+        ensures cause { OneFault result self.old.faults self.new.faults }
         ensures pages { self.new.pages ≡ self.old.pages }
         ensures lost { self.new.lost ≡ self.old.lost }
     {
@@ -239,7 +240,7 @@ impl<'r, R: Files> Device for FileDevice<'r, R> {
     }
 
     fn room(&mut self, pages: u32) -> Result<(), Failed>
-        ensures cause { HasCause result (file_seen self.old.pages self.old.faults) (file_seen self.new.pages self.new.faults) }
+        ensures cause { OneFault result self.old.faults self.new.faults }
         ensures grown { OnOk result (Grows pages (file_seen self.old.pages self.old.faults) (file_seen self.new.pages self.new.faults)) }
         ensures untouched { OnErr result (IsUntouched (file_seen self.old.pages self.old.faults) (file_seen self.new.pages self.new.faults)) }
         ensures open { OnOk result (IsSome self.new.file) }
@@ -256,7 +257,7 @@ impl<'r, R: Files> Device for FileDevice<'r, R> {
 
     fn read(&mut self, page: u32, into: &mut Page) -> Result<(), Failed>
         requires { page < self.old.pages }
-        ensures cause { HasCause result (file_seen self.old.pages self.old.faults) (file_seen self.new.pages self.new.faults) }
+        ensures cause { OneFault result self.old.faults self.new.faults }
         ensures kept { OneRead (file_seen self.old.pages self.old.faults) (file_seen self.new.pages self.new.faults) }
         ensures newest { OnOk result (false ≡ true → false ≡ true → slice_get (newest (file_seen self.old.pages self.old.faults).state) page ≡ Some into.new) }
         ensures closed { self.old.lost ≡ true → (IsErr result) × (self.new.lost ≡ true) }
@@ -270,7 +271,7 @@ impl<'r, R: Files> Device for FileDevice<'r, R> {
 
     fn write(&mut self, page: u32, from: &Page) -> Result<(), Failed>
         requires { page < self.old.pages }
-        ensures cause { HasCause result (file_seen self.old.pages self.old.faults) (file_seen self.new.pages self.new.faults) }
+        ensures cause { OneFault result self.old.faults self.new.faults }
         ensures call { OneCall (WriteEntry page from.now result) (file_seen self.old.pages self.old.faults) (file_seen self.new.pages self.new.faults) }
         ensures closed { self.old.lost ≡ true → (IsErr result) × (self.new.lost ≡ true) }
     {
@@ -282,7 +283,7 @@ impl<'r, R: Files> Device for FileDevice<'r, R> {
     }
 
     fn flush(&mut self) -> Result<(), Failed>
-        ensures cause { HasCause result (file_seen self.old.pages self.old.faults) (file_seen self.new.pages self.new.faults) }
+        ensures cause { OneFault result self.old.faults self.new.faults }
         ensures call { OneCall (FlushEntry result) (file_seen self.old.pages self.old.faults) (file_seen self.new.pages self.new.faults) }
         ensures unopened { OnOk result (IsSome self.old.file) }
         ensures closed { self.old.lost ≡ true → (IsErr result) × (self.new.lost ≡ true) }

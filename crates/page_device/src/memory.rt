@@ -5,7 +5,8 @@ ghost use Rattle.page_device.specs.Block.{zero_block};
 ghost use Rattle.page_device.specs.Chosen.{IsChosen};
 ghost use Rattle.page_device.specs.Disk.{at_rest, newest, state_after, with_room, LeftAt};
 ghost use Rattle.page_device.specs.Memory.{plan_for, fails_at, lie_for};
-ghost use Rattle.page_device.specs.Meaning.{HasCause, OneCall, OneRead, IsRefused, WriteEntry, FlushEntry, Grows, IsUntouched};
+ghost use Rattle.page_device.specs.Counts.{OneFault, raised};
+ghost use Rattle.page_device.specs.Meaning.{OneCall, OneRead, IsRefused, WriteEntry, FlushEntry, Grows, IsUntouched};
 
 use crate::image::{Rebuilt, copy_all, undo};
 use crate::log::Log;
@@ -312,7 +313,7 @@ impl MemDevice {
     // Counts a write or barrier, and gives what is planned for it.
     fn next_plan(&mut self) -> Option<bool>
         ensures counted { self.new ≡ record self.old { calls = self.new.calls } }
-        ensures calls { self.new.calls ≡ min (self.old.calls + 1) 18446744073709551615 }
+        ensures calls { self.new.calls ≡ raised self.old.calls 1 }
         ensures plan { result ≡ plan_for self.old.plans self.new.calls }
     {
         self.calls = self.calls.saturating_add(1);
@@ -321,7 +322,7 @@ impl MemDevice {
 
     // Counts a read, and tells whether it is planned to fail.
     fn next_read_fails(&mut self) -> bool
-        ensures counted { self.new ≡ record self.old { reads = min (self.old.reads + 1) 18446744073709551615 } }
+        ensures counted { self.new ≡ record self.old { reads = raised self.old.reads 1 } }
         ensures planned { result ≡ fails_at self.old.failing_reads self.new.reads }
     {
         self.reads = self.reads.saturating_add(1);
@@ -330,7 +331,7 @@ impl MemDevice {
 
     // Counts a `room`, and tells whether it is planned to fail.
     fn next_room_fails(&mut self) -> bool
-        ensures counted { self.new ≡ record self.old { rooms = min (self.old.rooms + 1) 18446744073709551615 } }
+        ensures counted { self.new ≡ record self.old { rooms = raised self.old.rooms 1 } }
         ensures planned { result ≡ fails_at self.old.failing_rooms self.new.rooms }
     {
         self.rooms = self.rooms.saturating_add(1);
@@ -386,9 +387,9 @@ impl MemDevice {
 
     // Counts a fault.
     fn count_fault(&mut self)
-        ensures alone { self.new ≡ record self.old { faults = self.new.faults } }
+        ensures alone { self.new ≡ record self.old { faults = raised self.old.faults 1 } }
+        ensures count { self.new.faults ≡ raised self.old.faults 1 }
         ensures never_falls { self.old.faults ≤ self.new.faults }
-        ensures raised { self.old.faults + 1 < 2 ^ 64 → self.old.faults < self.new.faults }
     {
         self.faults = self.faults.saturating_add(1);
     }
@@ -397,7 +398,7 @@ impl MemDevice {
     fn refuse(&mut self, entry: LogEntry) -> Result<(), Failed>
         requires { IsRefused entry }
         ensures err { IsErr result }
-        ensures cause { HasCause result (memory_seen self.old) (memory_seen self.new) }
+        ensures cause { OneFault result self.old.faults self.new.faults }
         ensures call { OneCall IsRefused (memory_seen self.old) (memory_seen self.new) }
         ensures state { (memory_seen self.new).state ≡ (memory_seen self.old).state }
         ensures calls { self.new.calls ≡ self.old.calls }
@@ -412,7 +413,7 @@ impl MemDevice {
     // A write that is not planned to fail.
     fn write_done(&mut self, page: u32, from: &Page) -> Result<(), Failed>
         requires { page < (memory_seen self.old).pages }
-        ensures cause { HasCause result (memory_seen self.old) (memory_seen self.new) }
+        ensures cause { OneFault result self.old.faults self.new.faults }
         ensures call { OneCall (WriteEntry page from.now result) (memory_seen self.old) (memory_seen self.new) }
         ensures calls { self.new.calls ≡ self.old.calls }
         ensures plans { self.new.plans ≡ self.old.plans }
@@ -428,7 +429,7 @@ impl MemDevice {
     // A write that fails and is taken all the same.
     fn write_taken(&mut self, page: u32, from: &Page) -> Result<(), Failed>
         requires { page < (memory_seen self.old).pages }
-        ensures cause { HasCause result (memory_seen self.old) (memory_seen self.new) }
+        ensures cause { OneFault result self.old.faults self.new.faults }
         ensures call { OneCall (WriteEntry page from.now result) (memory_seen self.old) (memory_seen self.new) }
         ensures calls { self.new.calls ≡ self.old.calls }
         ensures plans { self.new.plans ≡ self.old.plans }
@@ -457,12 +458,12 @@ impl Device for MemDevice {
     }
 
     fn room(&mut self, pages: u32) -> Result<(), Failed>
-        ensures cause { HasCause result (memory_seen self.old) (memory_seen self.new) }
+        ensures cause { OneFault result self.old.faults self.new.faults }
         ensures grown { OnOk result (Grows pages (memory_seen self.old) (memory_seen self.new)) }
         ensures untouched { OnErr result (IsUntouched (memory_seen self.old) (memory_seen self.new)) }
         ensures exact { OnOk result (self.new ≡ record self.old { start = self.old.start ++ replicate (pages - length self.old.start) zero_block; rooms = self.new.rooms }) }
         ensures failed { OnErr result (self.new ≡ record self.old { faults = self.new.faults; rooms = self.new.rooms }) }
-        ensures rooms { self.new.rooms ≡ min (self.old.rooms + 1) 18446744073709551615 }
+        ensures rooms { self.new.rooms ≡ raised self.old.rooms 1 }
         ensures planned { fails_at self.old.failing_rooms self.new.rooms ≡ true → IsErr result }
         ensures no_more { fails_at self.old.failing_rooms self.new.rooms ≡ false → pages ≤ length self.old.start → IsOk result }
     {
@@ -475,11 +476,11 @@ impl Device for MemDevice {
 
     fn read(&mut self, page: u32, into: &mut Page) -> Result<(), Failed>
         requires { page < (memory_seen self.old).pages }
-        ensures cause { HasCause result (memory_seen self.old) (memory_seen self.new) }
+        ensures cause { OneFault result self.old.faults self.new.faults }
         ensures kept { OneRead (memory_seen self.old) (memory_seen self.new) }
         ensures newest { OnOk result ((memory_seen self.old).honest ≡ true → (memory_seen self.old).tells_pages ≡ true
             → slice_get (newest (memory_seen self.old).state) page ≡ Some into.new) }
-        ensures exact { self.new ≡ record self.old { faults = self.new.faults; reads = min (self.old.reads + 1) 18446744073709551615 } }
+        ensures exact { self.new ≡ record self.old { faults = self.new.faults; reads = raised self.old.reads 1 } }
         ensures planned { fails_at self.old.failing_reads self.new.reads ≡ true → IsErr result }
         ensures unplanned { fails_at self.old.failing_reads self.new.reads ≡ false → IsOk result }
         ensures lied { OnOk result (IfSome (lie_for self.old.lies self.new.reads) (λ told. into.new ≡ told)) }
@@ -496,7 +497,7 @@ impl Device for MemDevice {
 
     fn write(&mut self, page: u32, from: &Page) -> Result<(), Failed>
         requires { page < (memory_seen self.old).pages }
-        ensures cause { HasCause result (memory_seen self.old) (memory_seen self.new) }
+        ensures cause { OneFault result self.old.faults self.new.faults }
         ensures call { OneCall (WriteEntry page from.now result) (memory_seen self.old) (memory_seen self.new) }
         ensures plan { FollowsPlan result self.old self.new }
         ensures taken { plan_for self.old.plans self.new.calls ≡ Some true → 0 < self.old.spare
@@ -515,7 +516,7 @@ impl Device for MemDevice {
     }
 
     fn flush(&mut self) -> Result<(), Failed>
-        ensures cause { HasCause result (memory_seen self.old) (memory_seen self.new) }
+        ensures cause { OneFault result self.old.faults self.new.faults }
         ensures call { OneCall (FlushEntry result) (memory_seen self.old) (memory_seen self.new) }
         ensures plan { FollowsPlan result self.old self.new }
     {

@@ -2,7 +2,7 @@
 use Rattle.std.specs.Prelude.{◌≡◌, ℕ, ◌≤◌, Bool, true, false, List, [], Result, Ok, Err}
 use Rattle.byte_ports.specs.Sink.{SinkMeaning, Takes, TakesFront}
 use Rattle.trace_text.specs.Texts.{text_of}
-use Rattle.page_device.specs.Meaning.{Meaning}
+use Rattle.page_device.specs.Meaning.{Meaning, FaultRose}
 use Rattle.trace_text.specs.declared.command.Command.{Command}
 use Rattle.trace_text.specs.declared.command.Command.TheVariants.{Write, Fill, Read, Discard, Flush, Stat, Policy, Tune, Tick}
 use Rattle.trace_text.specs.declared.reply.Reply.{Reply}
@@ -13,7 +13,7 @@ use Rattle.array_model.specs.Turns.{Asked, known, Rules, Asks, FitsAsked, array_
 use Rattle.dedup_writer.specs.declared.store.Refusal.{Refusal}
 use Rattle.dedup_writer.specs.declared.store.Refusal.TheVariants as refusal
 use Rattle.dedup_writer.specs.Core.{CoreView, stat_of, waste}
-use Rattle.dedup_writer.specs.Calls.{StoreCall, FaultRose, AllCounted}
+use Rattle.dedup_writer.specs.Calls.{StoreCall, AllCounted}
 use Rattle.dedup_writer.specs.Stands.{StandsFor}
 
 -- the commands that are built

@@ -3,7 +3,7 @@ use Rattle.std.specs.Prelude.{◌≡◌, ◌≢◌, ◌⊎◌, ℕ, ◌≤◌, t
 use Rattle.byte_ports.specs.Source.{SourceMeaning}
 use Rattle.byte_ports.specs.Sink.{SinkMeaning}
 use Rattle.page_device.specs.Disk.{at_rest}
-use Rattle.page_device.specs.Meaning.{Meaning, IsUntouched}
+use Rattle.page_device.specs.Meaning.{Meaning, IsUntouched, FaultRose}
 use Rattle.page_device.specs.Moments.{EachImage}
 use Rattle.page_layout.specs.Shape.{ShapeView}
 use Rattle.cli_words.specs.Grammar.{Means}
@@ -14,7 +14,6 @@ use Rattle.session.specs.declared.program.Action.TheVariants.{Trace, Format, Che
 use Rattle.array_model.specs.Images.{Mode, IsFit, IsGood}
 use Rattle.array_model.specs.Array.{array_start}
 use Rattle.dedup_writer.specs.Core.{CoreView}
-use Rattle.dedup_writer.specs.Calls.{FaultRose}
 use Rattle.session.specs.declared.status.Status.{Status}
 use Rattle.session.specs.declared.status.Status.TheVariants.{Done, Usage, DeviceFault, Damaged, LowCount, WrongPrint, PrintOnZero, NoMemory}
 use Rattle.image_reader.specs.Looked.{Looked, Holds, TellsShape}

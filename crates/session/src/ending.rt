@@ -1,10 +1,10 @@
 // The end of an input: the last line, and the closing flush.
 ghost use Rattle.std.specs.Prelude.{◌≡◌, ℕ, ◌≤◌, ◌+◌, ◌<◌, ◌^◌, true, List};
+ghost use Rattle.page_device.specs.Meaning.{FaultRose};
 ghost use Rattle.byte_ports.specs.Fault.{CountsFault};
 ghost use Rattle.page_layout.specs.Shape.{total};
 ghost use Rattle.session.specs.Session.{Start, SoFarWith};
 ghost use Rattle.session.specs.Endings.{RestAnswered, ClosesAs, Closed};
-ghost use Rattle.dedup_writer.specs.Calls.{FaultRose};
 
 use crate::line::Line;
 use crate::status::{Status, end_with};

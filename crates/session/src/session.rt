@@ -1,9 +1,9 @@
 // A session over a store.
 ghost use Rattle.std.specs.Prelude.{◌≡◌, ℕ, ◌≤◌, ◌<◌, ◌+◌, ◌^◌, List};
+ghost use Rattle.page_device.specs.Meaning.{FaultRose};
 ghost use Rattle.page_layout.specs.Shape.{total};
 ghost use Rattle.array_model.specs.Images.{Mode};
 ghost use Rattle.array_model.specs.Array.{BlockArray};
-ghost use Rattle.dedup_writer.specs.Calls.{FaultRose};
 ghost use Rattle.dedup_writer.specs.Stands.{StandsFor};
 ghost use Rattle.session.specs.Endings.{EndsAs, Served};
 ghost use Rattle.session.specs.Reading.{TakesAll};
