@@ -1,11 +1,7 @@
--- Counts of a port, and that a failed call is a counted fault.
-use Rattle.std.specs.Prelude.{ℕ, ◌+◌, ◌<◌, ◌≤◌, ◌^◌, min, Result, IsErr}
+-- That a failed call is a counted fault, also where it is many calls of a port.
+use Rattle.std.specs.Prelude.{ℕ, ◌+◌, ◌<◌, ◌≤◌, ◌^◌, Result, IsErr}
 use Rattle.std.proofs.Common.{arith, ⊎_elim}
 use Rattle.std.proofs.lemmas.Bool.{cases_lt}
-
--- a count that rises, and stands still at the end of a `u64`
-abbrev pub raised : ℕ → ℕ → ℕ
-raised count more = min (count + more) 18446744073709551615
 
 -- the count of faults never falls, and an error raises it; a count at its end may stand still
 pub record CountsFault {T E : Type 0} (result : Result T E) (old new : ℕ) : Type 0 where

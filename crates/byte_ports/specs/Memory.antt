@@ -2,7 +2,7 @@
 use Rattle.std.specs.Prelude.{ℕ, ◌==◌, min, max, Bool, true, List, ◌++◌, length, drop, Result, Ok, Err}
 use Rattle.std.specs.List.{list_any}
 use Rattle.page_device.specs.declared.error.Failed.{Failed}
-use Rattle.byte_ports.specs.Fault.{raised}
+use Rattle.page_device.specs.Counts.{raised}
 use Rattle.byte_ports.specs.Source.{SourceMeaning, ends_after}
 use Rattle.byte_ports.specs.Sink.{SinkMeaning}
 

@@ -1,6 +1,8 @@
 -- What a sink of bytes means, and what one call of it does.
-use Rattle.std.specs.Prelude.{◌≡◌, ℕ, ◌+◌, Bool, true, List, [], ◌++◌, take, drop, refl}
+use Rattle.std.specs.Prelude.{◌≡◌, ℕ, ◌+◌, Bool, true, List, [], ◌++◌, take, drop, Result, Ok, Err, refl}
 use Rattle.std.proofs.Common.{sym, ◌∙◌, ap, subst, append_assoc}
+use Rattle.page_device.specs.declared.error.Failed.{Failed}
+use Rattle.page_device.specs.Counts.{raised}
 use Rattle.std.proofs.lemmas.List.{append-nil, take-append-drop}
 use Rattle.std.proofs.Math.Seq.{take-add}
 
@@ -11,6 +13,11 @@ pub record SinkMeaning : Type 0 where
   -- the bytes that it took, where it tells them
   pub held : List ℕ
   pub faults : ℕ
+
+-- the count of faults after a call, by what it answered
+abbrev pub sink_counted : Result ℕ Failed → SinkMeaning → SinkMeaning
+sink_counted (Ok _) s = s
+sink_counted (Err _) s = record s { faults = raised s.faults 1 }
 
 -- it took these bytes
 pub record Takes (bytes : List ℕ) (old new : SinkMeaning) : Type 0 where

@@ -1,6 +1,6 @@
 // What a port counts.
 ghost use Rattle.std.specs.Prelude.{◌≡◌, IsErr};
-ghost use Rattle.byte_ports.specs.Fault.{CountsFault, raised};
+ghost use Rattle.page_device.specs.Counts.{OneFault, raised};
 ghost use Rattle.byte_ports.specs.Source.{ends_after};
 
 use page_device::Failed;
@@ -9,7 +9,7 @@ use page_device::Failed;
 pub fn fail(faults: &mut u64) -> Result<usize, Failed>
     ensures err { IsErr result }
     ensures count { faults.new ≡ raised faults.old 1 }
-    ensures cause { CountsFault result faults.old faults.new }
+    ensures cause { OneFault result faults.old faults.new }
 {
     *faults = faults.saturating_add(1);
     Err(Failed)

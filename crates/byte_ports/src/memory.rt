@@ -1,6 +1,6 @@
 // A source and a sink in memory, which tell everything and fail where they are told to.
 ghost use Rattle.std.specs.Prelude.{◌≡◌, ◌⊎◌, ◌+◌, ◌<◌, ◌≤◌, ◌++◌, [], true, false, length, take, drop, IsOk, IsErr, IfOk, OnOk, OnErr, vec_len, vec_capacity};
-ghost use Rattle.byte_ports.specs.Fault.{CountsFault, raised};
+ghost use Rattle.page_device.specs.Counts.{OneFault, raised};
 ghost use Rattle.byte_ports.specs.Memory.{fails_at, source_told, portion, source_after, sink_told, sink_after};
 ghost use Rattle.byte_ports.specs.Sink.{Takes, TakesFront};
 ghost use Rattle.byte_ports.specs.Source.{Gives, IsEnd, GivesNothing};
@@ -89,7 +89,7 @@ impl Source for MemSource {
     ghost seen = { source_told };
 
     fn take(&mut self, into: &mut [u8]) -> Result<usize, Failed>
-        ensures cause { CountsFault result self.old.faults self.new.faults }
+        ensures cause { OneFault result self.old.faults self.new.faults }
         ensures bound { IfOk result (λ n. n ≤ length into.new) }
         ensures given { IfOk result (λ n. Gives (take n into.new) (source_told self.old) (source_told self.new)) }
         ensures end { IfOk result (λ n. n ≡ 0 → 0 < length into.new → IsEnd (source_told self.old) (source_told self.new)) }
@@ -178,7 +178,7 @@ impl Sink for MemSink {
     ghost seen = { sink_told };
 
     fn put(&mut self, from: &[u8]) -> Result<usize, Failed>
-        ensures cause { CountsFault result self.old.faults self.new.faults }
+        ensures cause { OneFault result self.old.faults self.new.faults }
         ensures bound { IfOk result (λ n. n ≤ length from.now) }
         ensures some { IfOk result (λ n. 0 < length from.now → 0 < n) }
         ensures taken { IfOk result (λ n. Takes (take n from.now) (sink_told self.old) (sink_told self.new)) }

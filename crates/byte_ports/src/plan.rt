@@ -1,6 +1,6 @@
 // The calls of a port in memory: which of them are to fail.
 ghost use Rattle.std.specs.Prelude.{◌≡◌};
-ghost use Rattle.byte_ports.specs.Fault.{raised};
+ghost use Rattle.page_device.specs.Counts.{raised};
 ghost use Rattle.byte_ports.specs.Memory.{fails_at};
 
 /// The planned failures of a port, and its counts of calls and of faults.

@@ -1,14 +1,16 @@
 // A sink of bytes, as everything above sees it.
 ghost use Rattle.std.specs.Prelude.{◌≡◌, ◌<◌, ◌≤◌, length, take, IfOk, OnOk, OnErr};
 ghost use Rattle.byte_ports.specs.Fault.{CountsFault};
+ghost use Rattle.page_device.specs.Counts.{OneFault};
 ghost use Rattle.byte_ports.specs.Sink.{SinkMeaning, Takes, TakesFront};
 
 use page_device::Failed;
 
 /// What takes bytes, piece by piece.
 ///
-/// Each call that answers `Failed` has raised the sink's count of faults. Whether it tells the bytes
-/// that it holds is a meaning that no call changes.
+/// Each call that answers `Failed` raises the sink's count of faults by one, and no other call changes it: a
+/// call that was interrupted and tried again is no fault. Whether it tells the bytes that it holds is a meaning
+/// that no call changes. A count stands still at its end.
 pub trait Sink {
     /// What it tells of itself.
     ghost seen: { Self → SinkMeaning };
@@ -16,7 +18,7 @@ pub trait Sink {
     /// Takes a front of the piece, and gives the number of its bytes: at least one where the piece is
     /// not empty. After `Failed` the sink holds what it held and some front of the piece.
     fn put(&mut self, from: &[u8]) -> Result<usize, Failed>
-        ensures cause { CountsFault result (seen self.old).faults (seen self.new).faults }
+        ensures cause { OneFault result (seen self.old).faults (seen self.new).faults }
         ensures bound { IfOk result (λ n. n ≤ length from.now) }
         ensures some { IfOk result (λ n. 0 < length from.now → 0 < n) }
         ensures taken { IfOk result (λ n. Takes (take n from.now) (seen self.old) (seen self.new)) }
