@@ -1,7 +1,10 @@
 // std's readers and writers as sources and sinks.
-ghost use Rattle.std.specs.Prelude.{◌≡◌, ◌⊎◌, ◌<◌, ◌≤◌, false, true, length, IfOk, IsSome};
+ghost use Rattle.std.specs.Prelude.{◌≡◌, ◌⊎◌, ◌<◌, ◌≤◌, false, true, length, take, IfOk, OnErr, IsSome};
 ghost use Rattle.std.specs.Io.KnownBytes.{ReadConsumes, WriteAppends};
+ghost use Rattle.page_device.specs.Counts.{OneFault};
 ghost use Rattle.byte_ports.specs.Adapter.{reader_told, writer_told};
+ghost use Rattle.byte_ports.specs.Sink.{Takes, TakesFront, sink_counted};
+ghost use Rattle.byte_ports.specs.Source.{Gives, IsEnd, GivesNothing, source_counted};
 
 use crate::counts::{Given, fail};
 use crate::{Sink, Source};
@@ -15,7 +18,8 @@ const MOST_TRIES: u32 = u32::MAX;
 /// A reader of std as a source.
 ///
 /// A call that a signal interrupted is tried again, up to 2^32 - 1 times in all; every other error is a
-/// fault. A call of `take` costs one read of the reader, beside those that were interrupted.
+/// fault. A call of `take` costs one read of the reader, beside those that were interrupted. The counts of
+/// bytes, ends and faults are exact over every reader.
 #[derive(Drop)]
 pub struct StdSource<R: Read> {
     inner: R,
@@ -84,7 +88,15 @@ fn read_again<R: Read>(inner: &mut R, into: &mut [u8]) -> Result<usize, Failed>
 impl<R: Read> Source for StdSource<R> {
     ghost seen = { λ s. s };
 
-    fn take(&mut self, into: &mut [u8]) -> Result<usize, Failed> {
+    fn take(&mut self, into: &mut [u8]) -> Result<usize, Failed>
+        ensures cause { OneFault result self.old.faults self.new.faults }
+        ensures bound { IfOk result (λ n. n ≤ length into.new) }
+        ensures given { IfOk result (λ n. Gives (take n into.new) self.old self.new) }
+        ensures end { IfOk result (λ n. n ≡ 0 → 0 < length into.new → IsEnd self.old self.new) }
+        ensures no_end { IfOk result (λ n. (0 < n) ⊎ (length into.new ≡ 0) → self.new.ends ≡ self.old.ends) }
+        ensures failed { OnErr result (GivesNothing self.old self.new) }
+        ensures counts { self.new ≡ record (source_counted result (length into.new) self.old) { left = self.new.left } }
+    {
         let Ok(count) = read_again(&mut self.inner, into) else {
             return fail(&mut self.faults);
         };
@@ -97,7 +109,8 @@ impl<R: Read> Source for StdSource<R> {
 ///
 /// A call that a signal interrupted is tried again, up to 2^32 - 1 times in all; every other error is a
 /// fault, and so is a write that takes nothing of a piece that is not empty. A call of `put` costs one
-/// write of the writer, beside those that were interrupted. The writer is not flushed.
+/// write of the writer, beside those that were interrupted. The writer is not flushed. The count of faults is
+/// exact over every writer.
 #[derive(Drop)]
 pub struct StdSink<W: Write> {
     inner: W,
@@ -162,7 +175,14 @@ fn write_again<W: Write>(inner: &mut W, from: &[u8]) -> Result<usize, Failed>
 impl<W: Write> Sink for StdSink<W> {
     ghost seen = { λ s. s };
 
-    fn put(&mut self, from: &[u8]) -> Result<usize, Failed> {
+    fn put(&mut self, from: &[u8]) -> Result<usize, Failed>
+        ensures cause { OneFault result self.old.faults self.new.faults }
+        ensures bound { IfOk result (λ n. n ≤ length from.now) }
+        ensures some { IfOk result (λ n. 0 < length from.now → 0 < n) }
+        ensures taken { IfOk result (λ n. Takes (take n from.now) self.old self.new) }
+        ensures failed { OnErr result (TakesFront from.now self.old self.new) }
+        ensures counts { self.new ≡ record (sink_counted result self.old) { held = self.new.held } }
+    {
         match write_again(&mut self.inner, from) {
             Ok(0) if !from.is_empty() => fail(&mut self.faults),
             Ok(count) => Ok(count),
