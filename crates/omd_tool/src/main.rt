@@ -11,6 +11,8 @@ use cli_words::USAGE;
 use page_device::FileDevice;
 use session::{Status, run};
 use std::alloc::{AllocError, Global};
+use std::fs::{File, OpenOptions};
+use std::os::fd::{AsRawFd, RawFd};
 use std::process::ExitCode;
 use std::{env, io};
 
@@ -47,7 +49,36 @@ fn run_words(rt: &HostRuntime, words: env::Args) -> Status {
     run(rt.alloc(), &words, &mut source, &mut sink, &mut device)
 }
 
+// What stands in for standard input, output and error, where the program began with them closed. A file that
+// is opened gets the lowest number that is free, so the image would get theirs: replies would be written into
+// it, and its pages be read as commands. Each stand-in is kept as long as the program runs, and fails as what it
+// stands for: input is opened for writing alone, output and error are opened for reading alone.
+fn stand_ins(rt: &HostRuntime) -> io::Result<[Option<File>; 3]> {
+    let mut to_write = OpenOptions::new();
+    to_write.write(true);
+    let mut to_read = OpenOptions::new();
+    to_read.read(true);
+    Ok([
+        null_device(rt, &to_write, 0)?,
+        null_device(rt, &to_read, 2)?,
+        null_device(rt, &to_read, 2)?,
+    ])
+}
+
+// The null device, where its number is at most the last one: else it is closed again.
+fn null_device(rt: &HostRuntime, how: &OpenOptions, last: RawFd) -> io::Result<Option<File>> {
+    let file = how.open(rt, "/dev/null")?;
+    if file.as_raw_fd() > last {
+        return Ok(None);
+    }
+    Ok(Some(file))
+}
+
 fn main(rt: HostRuntime) -> ExitCode {
+    let Ok(_stand_ins) = stand_ins(&rt) else {
+        let _ = eprintln!(rt; "omd_tool: the null device /dev/null can't be opened");
+        return ExitCode::from(Status::DeviceFault.number());
+    };
     let status = match env::args(&rt) {
         Ok(words) => run_words(&rt, words),
         Err(why) => unread(&why),
