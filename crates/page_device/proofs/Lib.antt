@@ -8,3 +8,4 @@ pub mod Quiet
 pub mod Rebuilds
 pub mod ChosenSteps
 pub mod KeptCalls
+pub mod Shown

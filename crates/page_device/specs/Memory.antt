@@ -1,5 +1,5 @@
 -- A device in memory as plain data: what callers see of it, and how its start is found again.
-use Rattle.std.specs.Prelude.{◌≡◌, ℕ, suc, cond, nat_le, ◌+◌, ◌-◌, ◌<◌, ◌≤◌, ◌==◌, Bool, true, false, List, [], ◌∷◌, ◌++◌, length, replicate, reverse, find, slice_set, Option, None, IsSome, Result, IsOk, IsErr}
+use Rattle.std.specs.Prelude.{◌≡◌, ◌⊎◌, ℕ, suc, cond, nat_le, ◌+◌, ◌-◌, ◌<◌, ◌≤◌, ◌==◌, Bool, true, false, List, [], ◌∷◌, ◌++◌, length, replicate, reverse, find, slice_set, Option, None, IsSome, Result, IsOk, IsErr}
 use Rattle.std.specs.Option.{option_map}
 use Rattle.std.specs.List.{list_any}
 use Rattle.page_device.specs.declared.device.End.TheVariants.{Done, Refused, Taken}
@@ -121,6 +121,13 @@ pub record FollowsPlan {E : Type 0} (result : Result Unit E) (old new : MemoryVi
   pub spare : old.spare ≤ new.spare + 1
   pub planned : IsSome (plan_for old.plans new.calls) → IsErr result
   pub unplanned : plan_for old.plans new.calls ≡ None → 0 < old.spare → IsOk result
+
+-- The log shows an entry of this kind, or lost it where there was no room for it. Beside the log and the counts nothing changed:
+-- not the start, nor what is planned for reads, for calls of `room` and for lies, nor their counts.
+pub record ShowsCall (IsEntry : LogEntry → Type 0) (old new : MemoryView) : Type 0 where
+  pub frame : new ≡ record old { all = new.all; kept = new.kept; spare = new.spare; calls = new.calls; faults = new.faults }
+  pub kept : ((new.kept ≡ old.kept) × (old.spare ≡ 0))
+      ⊎ ((entry : LogEntry) × (IsEntry entry × ((new.kept ≡ old.kept ++ entry ∷ []) × (new.all ≡ old.all ++ entry ∷ []))))
 
 -- the number of pages is that of its start
 pub pages_stay : (m : MemoryView) → length (state_after (at_rest m.start) m.all).fixed ≡ length m.start

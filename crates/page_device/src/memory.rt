@@ -117,7 +117,7 @@ fn push_zeros(pages: &mut Vec<Page>, more: usize)
 
 impl MemDevice {
     ghost use Rattle.page_device.specs.MemorySeen.{telling, memory_seen};
-    ghost use Rattle.page_device.specs.Memory.{with_entry, lost_call, beginning, IsQuiet};
+    ghost use Rattle.page_device.specs.Memory.{with_entry, lost_call, beginning, taken_pages, AllBelow, IsQuiet, ShowsCall};
 
     /// A device that begins with these pages fixed, nothing pending, an empty log and no planned
     /// failure. Takes no memory.
@@ -212,9 +212,11 @@ impl MemDevice {
         Ok(())
     }
 
-    /// The write and barrier calls so far, in order, without those for whose entry no memory was found.
+    /// The write and barrier calls so far, in order, without those for whose entry no memory was found. Each page that
+    /// was written is one of the device.
     pub fn log(&self) -> &[LogEntry]
-        ensures { result.now ≡ self.now.kept }
+        ensures kept { result.now ≡ self.now.kept }
+        ensures within { AllBelow (taken_pages self.now.all) (length self.now.start) }
     {
         self.log.kept()
     }
@@ -374,6 +376,7 @@ impl MemDevice {
     fn note_refused(&mut self, entry: LogEntry)
         requires { IsRefused entry }
         ensures call { OneCall IsRefused (memory_seen self.old) (memory_seen self.new) }
+        ensures shows { ShowsCall IsRefused self.old self.new }
         ensures faults { self.new.faults ≡ self.old.faults }
         ensures calls { self.new.calls ≡ self.old.calls }
         ensures plans { self.new.plans ≡ self.old.plans }
@@ -400,6 +403,7 @@ impl MemDevice {
         ensures err { IsErr result }
         ensures cause { OneFault result self.old.faults self.new.faults }
         ensures call { OneCall IsRefused (memory_seen self.old) (memory_seen self.new) }
+        ensures shows { ShowsCall IsRefused self.old self.new }
         ensures state { (memory_seen self.new).state ≡ (memory_seen self.old).state }
         ensures calls { self.new.calls ≡ self.old.calls }
         ensures plans { self.new.plans ≡ self.old.plans }
@@ -415,6 +419,7 @@ impl MemDevice {
         requires { page < (memory_seen self.old).pages }
         ensures cause { OneFault result self.old.faults self.new.faults }
         ensures call { OneCall (WriteEntry page from.now result) (memory_seen self.old) (memory_seen self.new) }
+        ensures shows { ShowsCall (WriteEntry page from.now result) self.old self.new }
         ensures calls { self.new.calls ≡ self.old.calls }
         ensures plans { self.new.plans ≡ self.old.plans }
         ensures spare { self.old.spare ≤ self.new.spare + 1 }
@@ -431,6 +436,7 @@ impl MemDevice {
         requires { page < (memory_seen self.old).pages }
         ensures cause { OneFault result self.old.faults self.new.faults }
         ensures call { OneCall (WriteEntry page from.now result) (memory_seen self.old) (memory_seen self.new) }
+        ensures shows { ShowsCall (WriteEntry page from.now result) self.old self.new }
         ensures calls { self.new.calls ≡ self.old.calls }
         ensures plans { self.new.plans ≡ self.old.plans }
         ensures spare { self.old.spare ≤ self.new.spare + 1 }
@@ -447,7 +453,7 @@ impl MemDevice {
 
 impl Device for MemDevice {
     ghost use Rattle.page_device.specs.MemorySeen.{memory_seen};
-    ghost use Rattle.page_device.specs.Memory.{FollowsPlan, with_entry, pages_stay};
+    ghost use Rattle.page_device.specs.Memory.{FollowsPlan, ShowsCall, with_entry, pages_stay};
 
     ghost seen = { memory_seen };
 
@@ -499,6 +505,7 @@ impl Device for MemDevice {
         requires { page < (memory_seen self.old).pages }
         ensures cause { OneFault result self.old.faults self.new.faults }
         ensures call { OneCall (WriteEntry page from.now result) (memory_seen self.old) (memory_seen self.new) }
+        ensures shows { ShowsCall (WriteEntry page from.now result) self.old self.new }
         ensures plan { FollowsPlan result self.old self.new }
         ensures taken { plan_for self.old.plans self.new.calls ≡ Some true → 0 < self.old.spare
             → self.new.all ≡ self.old.all ++ LogEntry.Write page from.now End.Taken ∷ [] }
@@ -518,6 +525,7 @@ impl Device for MemDevice {
     fn flush(&mut self) -> Result<(), Failed>
         ensures cause { OneFault result self.old.faults self.new.faults }
         ensures call { OneCall (FlushEntry result) (memory_seen self.old) (memory_seen self.new) }
+        ensures shows { ShowsCall (FlushEntry result) self.old self.new }
         ensures plan { FollowsPlan result self.old self.new }
     {
         if self.next_plan().is_some() {
