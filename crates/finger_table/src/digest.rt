@@ -7,7 +7,8 @@ use sha1::Sha1;
 use sha2::{Digest, Sha256};
 
 /// The fingerprint of a content in an image of this version: in version 1 its SHA-1, and otherwise
-/// the first 20 bytes of its SHA-256 (FIPS 180-4). Linear in the page: some 6 µs and 11 µs.
+/// the first 20 bytes of its SHA-256 (FIPS 180-4). Linear in the page: some 6 µs and 11 µs. It does not say that other
+/// contents have other fingerprints.
 #[tactic(auto, unfolding(page_layout::specs::Fingerprint::fingerprint_of))]
 pub fn fingerprint(version: u32, page: &Page) -> [u8; 20]
     ensures { result ≡ fingerprint_of version page.now }

@@ -75,6 +75,7 @@ pub fn put_page(lists: &mut Vec<Vec<u32>>, list: usize, at: usize, p: u32)
     requires room { has_room lists.old.items list ≡ true }
     ensures here { list_at lists.new.items list ≡ insert (list_at lists.old.items list) at p }
     ensures others { (k : ℕ) → k ≢ list → list_at lists.new.items k ≡ list_at lists.old.items k }
+    ensures rooms { (k : ℕ) → k ≢ list → has_room lists.old.items k ≡ true → has_room lists.new.items k ≡ true }
 {
     let _ = lists[list].insert(at, p);
 }

@@ -2,6 +2,7 @@
 ghost use Rattle.std.specs.Prelude.{◌≡◌, ◌≢◌, ◌↔◌, ℕ, List, true, None, Some, OnOk, OnErr, IsOk};
 ghost use Rattle.std.specs.List.Sorted.{IsStrictlyIncreasing};
 ghost use Rattle.finger_table.specs.Index.{print_at, is_ready, StandsIn};
+ghost use Rattle.finger_table.specs.Order.{bucket_of};
 
 use crate::lists::{lengthen, put_page, reserve, take_page};
 use crate::order::{list_of, part_of, place};
@@ -42,7 +43,7 @@ impl Model for Prints {
 }
 
 impl Prints {
-    /// No prints. Takes no memory.
+    /// No prints. Takes no memory, which no clause says.
     pub fn new(alloc: Global) -> Prints
         ensures { (p : ℕ) → print_at result p ≡ None }
     {
@@ -53,7 +54,7 @@ impl Prints {
         }
     }
 
-    /// The print of a page, if it has one. Constant time.
+    /// The print of a page, if it has one. Constant time. It does not say that this is the fingerprint of what the page holds.
     pub fn print_of(&self, p: u32) -> Option<[u8; 20]>
         ensures { result ≡ print_at self.now p }
     {
@@ -63,7 +64,8 @@ impl Prints {
         }
     }
 
-    /// The pages that have a print, in rising order. Logarithmic in the pages of the print's list.
+    /// The pages that have a print, in rising order. Logarithmic in the pages of the print's list. It does not say that they
+    /// hold equal contents.
     pub fn candidates(&self, print: &[u8; 20]) -> &[u32]
         ensures rising { IsStrictlyIncreasing result.now }
         ensures exact { (p : ℕ) → (StandsIn result.now p ↔ (print_at self.now p ≡ Some print.now)) }
@@ -76,7 +78,7 @@ impl Prints {
 
     /// Makes room for a print of a page: one `insert` of this pair can't fail then, and a `remove`
     /// takes none of the room. After an error nothing is changed. Constant time, amortized; the first
-    /// one makes the lists.
+    /// one makes the lists. It does not say that there is memory where the pair is not ready.
     pub fn reserve(&mut self, print: &[u8; 20], p: u32) -> Result<(), NoMemory>
         ensures ready { OnOk result (is_ready self.new print.now p ≡ true) }
         ensures prints { (q : ℕ) → print_at self.new q ≡ print_at self.old q }
@@ -93,6 +95,7 @@ impl Prints {
         requires absent { print_at self.old p ≡ None }
         ensures here { print_at self.new p ≡ Some print.now }
         ensures others { (q : ℕ) → q ≢ p → print_at self.new q ≡ print_at self.old q }
+        ensures ready { (own : List ℕ) (q : ℕ) → bucket_of own ≢ bucket_of print.now → is_ready self.old own q ≡ true → is_ready self.new own q ≡ true }
     {
         let list = list_of(print);
         let at = place(&self.table, &self.lists[list], print, p as u64);
@@ -100,13 +103,16 @@ impl Prints {
         self.table[p as usize] = Some(*print);
     }
 
-    /// Gives a page this print, in place of the one that it had. After an error nothing is changed.
+    /// Gives a page this print, in place of the one that it had. After an error nothing is changed. Each pair whose
+    /// print begins with other two bytes is as ready as it was; of one that begins with the same two this says
+    /// nothing, as the room that was made for it may be taken.
     /// Logarithmic in the pages of the print's list, beside a move of those behind the page.
     pub fn insert(&mut self, print: &[u8; 20], p: u32) -> Result<(), NoMemory>
         ensures here { OnOk result (print_at self.new p ≡ Some print.now) }
         ensures others { (q : ℕ) → q ≢ p → print_at self.new q ≡ print_at self.old q }
         ensures same { OnErr result (print_at self.new p ≡ print_at self.old p) }
         ensures succeeds { is_ready self.old print.now p ≡ true → IsOk result }
+        ensures ready { (own : List ℕ) (q : ℕ) → bucket_of own ≢ bucket_of print.now → is_ready self.old own q ≡ true → is_ready self.new own q ≡ true }
     {
         self.reserve(print, p)?;
         self.remove(p);
@@ -114,7 +120,8 @@ impl Prints {
         Ok(())
     }
 
-    /// Takes a page's print away. A page without a print stays as it is. Costs what `insert` does.
+    /// Takes a page's print away. A page without a print stays as it is. Costs what `insert` does. It does not say that the
+    /// pair which is taken away is ready then.
     pub fn remove(&mut self, p: u32)
         ensures gone { print_at self.new p ≡ None }
         ensures others { (q : ℕ) → q ≢ p → print_at self.new q ≡ print_at self.old q }

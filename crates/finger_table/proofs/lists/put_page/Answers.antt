@@ -1,5 +1,5 @@
 use Rattle.std.proofs.Common.{◌≡◌, ◌<◌, ℕ, List, length, true, is_ok, sym, ◌∙◌, ap, arith, insert}
-use Rattle.finger_table.proofs.ListFunctions.{list_at_index, list_at_set, list_at_other, room_means}
+use Rattle.finger_table.proofs.ListFunctions.{list_at_index, list_at_set, list_at_other, has_room_other, room_means}
 use Rattle.finger_table.proofs.lists.put_page.Goals as goal
 
 pub insert-requires : goal.insert-requires
@@ -14,3 +14,6 @@ returns-clause-here c =
 
 pub returns-clause-others : goal.returns-clause-others
 returns-clause-others c = λ k ne. list_at_other c.args.lists.now.items c.args.list k c.insert.new.self ne
+
+pub returns-clause-rooms : goal.returns-clause-rooms
+returns-clause-rooms c = λ k ne is. has_room_other c.args.lists.now.items c.args.list k c.insert.new.self ne ∙ is
