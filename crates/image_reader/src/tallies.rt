@@ -11,7 +11,7 @@ use page_layout::{Shape, map_entry, used_entries};
 use std::alloc::Global;
 
 /// So many zeros: a tally for each data page before any name is counted. Takes 4 bytes for each, and
-/// answers `NoMemory` where there are none. Linear in `n`.
+/// answers `NoMemory` where there are none. Linear in `n`. It does not say that there is memory.
 pub fn zeros(alloc: Global, n: u32) -> Result<Vec<u32>, NoMemory>
     ensures { IfOk result (λ list. list.items ≡ replicate n 0) }
 {
@@ -65,7 +65,8 @@ fn count_names(tallies: &mut Vec<u32>, page: &Page, used: u32) -> u32
 
 /// Counts the names in the map page `j`, counted from 0, where those of the blocks before it are counted in
 /// the tallies and `mapped` of those blocks have a name. Answers how many blocks have one by now. Linear in
-/// the page; a page of zeros, which names nothing, is passed at once.
+/// the page; a page of zeros, which names nothing, is passed at once. It does not say what a name is worth that names no
+/// data page: that is a malformed entry.
 pub fn tally_page(tallies: &mut Vec<u32>, j: u32, page: &Page, shape: &Shape, mapped: u32) -> u32
     requires within { j < map_pages shape.now }
     requires entries { IsMapPage shape.now j page.now }
