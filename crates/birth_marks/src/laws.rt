@@ -5,7 +5,7 @@ ghost use Rattle.birth_marks.specs.Calls.{Call, Change, Fixed, Tried, Written, i
 ghost use Rattle.birth_marks.specs.Births.{BirthsView, Changed, FixedAll, Remembers, Same, TriedAt, WrittenAt, is_unborn_in, recorded_in};
 
 /// Whatever the calls, what is recorded is what they say, where each slot stands on a page of its own: so is what `unborn` answers.
-/// The calls stand in a list, the latest first.
+/// The calls stand in a list, the latest first. It does not say that a list of calls was made.
 pub fn calls_are_remembered()
     ensures nothing { (place : Slot → ℕ) (b : BirthsView) → ((s : Slot) → recorded_in b s ≡ false) → Remembers place b [] }
     ensures same { (place : Slot → ℕ) (b c : BirthsView) (calls : List Call) → Remembers place b calls → Same b c → Remembers place c calls }

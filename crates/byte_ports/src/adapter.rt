@@ -43,7 +43,7 @@ impl<R: Read> Model for StdSource<R> {
 
 impl<R: Read> StdSource<R> {
     /// A source over any reader. It does not tell what the reader has left, since a reader that tells
-    /// nothing may begin to. Takes no memory.
+    /// nothing may begin to. Takes no memory, which no clause says.
     pub fn new(inner: R) -> StdSource<R>
         ensures { result ≡ reader_told false (R.remaining inner) 0 0 0 }
     {
@@ -56,7 +56,7 @@ impl<R: Read> StdSource<R> {
     }
 
     /// A source over a reader of known bytes, as a slice or a cursor. It tells what the reader has left.
-    /// Takes no memory.
+    /// Takes no memory, which no clause says.
     pub fn telling(inner: R) -> StdSource<R>
         requires { IsSome (R.remaining inner) }
         ensures { result ≡ reader_told true (R.remaining inner) 0 0 0 }
@@ -133,7 +133,7 @@ impl<W: Write> Model for StdSink<W> {
 
 impl<W: Write> StdSink<W> {
     /// A sink over any writer. It does not tell what the writer holds, since a writer that tells nothing
-    /// may begin to. Takes no memory.
+    /// may begin to. Takes no memory, which no clause says.
     pub fn new(inner: W) -> StdSink<W>
         ensures { result ≡ writer_told false (W.contents inner) 0 }
     {
@@ -144,7 +144,8 @@ impl<W: Write> StdSink<W> {
         }
     }
 
-    /// A sink over a writer of known bytes, as a vector. It tells what the writer holds. Takes no memory.
+    /// A sink over a writer of known bytes, as a vector. It tells what the writer holds. Takes no memory, which no clause
+    /// says.
     pub fn telling(inner: W) -> StdSink<W>
         requires { IsSome (W.contents inner) }
         ensures { result ≡ writer_told true (W.contents inner) 0 }

@@ -48,7 +48,7 @@ impl Model for MemSource {
 impl MemSource {
     /// A source that gives these bytes, in order, at most `piece` of them in one call, and one where
     /// `piece` is 0. The calls of the numbers `fails`, counted from 1, fail, and no others. Takes no
-    /// memory.
+    /// memory, which no clause says.
     pub fn new(bytes: Vec<u8>, piece: usize, fails: Vec<u64>) -> MemSource
         ensures { result ≡ record {
           left = bytes.items;
@@ -136,7 +136,8 @@ impl Model for MemSink {
 
 impl MemSink {
     /// A sink that holds nothing. The calls of `put` of the numbers `fails`, counted from 1, fail, and of
-    /// the others only those for whose bytes no memory is found. Takes no memory.
+    /// the others only those for whose bytes no memory is found. Takes no memory, which no clause says, nor how many
+    /// bytes find room.
     pub fn new(alloc: Global, fails: Vec<u64>) -> MemSink
         ensures held { result.held ≡ [] }
         ensures fails { result.fails ≡ fails.items }
@@ -150,7 +151,7 @@ impl MemSink {
     }
 
     /// Makes room for at least so many further bytes: no `put` within them fails but where it is planned.
-    /// After an error nothing is changed.
+    /// After an error nothing is changed. It does not say that there is memory for the room.
     pub fn reserve(&mut self, bytes: usize) -> Result<(), NoMemory>
         ensures same { self.new ≡ record self.old { spare = self.new.spare } }
         ensures never_fewer { self.old.spare ≤ self.new.spare }
@@ -164,7 +165,7 @@ impl MemSink {
         }
     }
 
-    /// The bytes that it holds.
+    /// The bytes that it holds. The contract leaves out what it costs: nothing.
     pub fn bytes(&self) -> &[u8]
         ensures { result.now ≡ self.now.held }
     {

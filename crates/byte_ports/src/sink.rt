@@ -16,7 +16,8 @@ pub trait Sink {
     ghost seen: { Self → SinkMeaning };
 
     /// Takes a front of the piece, and gives the number of its bytes: at least one where the piece is
-    /// not empty. After `Failed` the sink holds what it held and some front of the piece.
+    /// not empty. After `Failed` the sink holds what it held and some front of the piece. It does not say how many bytes
+    /// more than one it takes, nor that a call ever succeeds.
     fn put(&mut self, from: &[u8]) -> Result<usize, Failed>
         ensures cause { OneFault result (seen self.old).faults (seen self.new).faults }
         ensures bound { IfOk result (λ n. n ≤ length from.now) }
@@ -27,7 +28,7 @@ pub trait Sink {
 
 /// Puts the whole piece, in as many calls as the sink needs, and stops at the first that fails. After
 /// `Failed` the sink holds what it held and some front of the piece, which may be all of it. At most one
-/// call of `put` for each byte.
+/// call of `put` for each byte; no clause says how many.
 pub fn put_all<K: Sink>(sink: &mut K, from: &[u8]) -> Result<(), Failed>
     ensures cause { CountsFault result (K.seen sink.old).faults (K.seen sink.new).faults }
     ensures all { OnOk result (Takes from.now (K.seen sink.old) (K.seen sink.new)) }

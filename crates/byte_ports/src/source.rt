@@ -16,7 +16,8 @@ pub trait Source {
 
     /// Takes the next bytes into the front of the piece, and gives their number. 0 for a piece that is
     /// not empty is the end: nothing is left, and the source counts an end. After `Failed` nothing was
-    /// given, and nothing is known of the piece.
+    /// given, and nothing is known of the piece. It does not say how many bytes come while some are left, nor that a call
+    /// ever succeeds.
     fn take(&mut self, into: &mut [u8]) -> Result<usize, Failed>
         ensures cause { OneFault result (seen self.old).faults (seen self.new).faults }
         ensures bound { IfOk result (λ n. n ≤ length into.new) }

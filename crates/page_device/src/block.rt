@@ -35,14 +35,14 @@ impl Page {
     ghost use Rattle.std.specs.Prelude.{◌≡◌, ◌↔◌, IsTrue, length};
     ghost use Rattle.page_device.specs.Block.{zero_block, numbered_block};
 
-    /// The zero block: 4096 zero bytes. An unmapped block reads as it.
+    /// The zero block: 4096 zero bytes. An unmapped block reads as it. The contract leaves out what it costs: a page.
     pub fn zero() -> Page
         ensures { result ≡ zero_block }
     {
         Page([0; 4096])
     }
 
-    /// The block of a number: its eight bytes, highest first, and then zeros.
+    /// The block of a number: its eight bytes, highest first, and then zeros. The contract leaves out what it costs: a page.
     pub fn numbered(number: u64) -> Page
         ensures { result ≡ numbered_block number }
     {
@@ -51,7 +51,7 @@ impl Page {
         Page(bytes)
     }
 
-    /// The same bytes once more.
+    /// The same bytes once more. The contract leaves out what it costs: a page.
     pub fn copy(&self) -> Page
         ensures { result ≡ self.now }
     {
@@ -59,7 +59,8 @@ impl Page {
     }
 
     /// Whether each byte is zero: what an unmapped block reads, and what a table page holds of which no entry is
-    /// used. Constant where one of the first 64 bytes is not zero, and else linear in the page, many bytes at a time.
+    /// used. Constant where one of the first 64 bytes is not zero, and else linear in the page, many bytes at a time; no
+    /// clause says so.
     pub fn is_zero(&self) -> bool
         ensures zero { IsTrue result ↔ (self.now ≡ zero_block) }
         ensures whole { length self.now ≡ 4096 }
@@ -71,7 +72,7 @@ impl Page {
         some_bits(&self.0) == 0
     }
 
-    /// The bytes.
+    /// The bytes. The contract leaves out what it costs: nothing.
     pub fn bytes(&self) -> &[u8]
         ensures bytes { result.now ≡ self.now }
         ensures whole { length result.now ≡ 4096 }

@@ -37,19 +37,20 @@ pub trait Device {
     /// What it tells of itself.
     ghost seen: { Self → Meaning };
 
-    /// The number of pages. Constant time.
+    /// The number of pages. Constant time. It does not say that another process leaves the number.
     fn pages(&self) -> u32
         ensures { result ≡ (seen self.now).pages };
 
     /// Makes the device at least so many pages large. New pages are zeros and are fixed at once.
     /// `room(0)` asks for no page and lets a device be opened. A failed call changes nothing but the
-    /// count of faults.
+    /// count of faults. It does not say how many more pages there are than asked for, where the device had fewer.
     fn room(&mut self, pages: u32) -> Result<(), Failed>
         ensures cause { OneFault result (seen self.old).faults (seen self.new).faults }
         ensures grown { OnOk result (Grows pages (seen self.old) (seen self.new)) }
         ensures untouched { OnErr result (IsUntouched (seen self.old) (seen self.new)) };
 
-    /// Reads a page. After `Failed` nothing is known of `into`.
+    /// Reads a page. After `Failed` nothing is known of `into`. It does not say that a read ever succeeds, nor what a device
+    /// gives that is not honest or tells no pages.
     fn read(&mut self, page: u32, into: &mut Page) -> Result<(), Failed>
         requires { page < (seen self.old).pages }
         ensures cause { OneFault result (seen self.old).faults (seen self.new).faults }
@@ -57,13 +58,15 @@ pub trait Device {
         ensures newest { OnOk result ((seen self.old).honest ≡ true → (seen self.old).tells_pages ≡ true
             → slice_get (newest (seen self.old).state) page ≡ Some into.new) };
 
-    /// Writes a whole page. After `Failed` the content may be on the disk or not.
+    /// Writes a whole page. After `Failed` the content may be on the disk or not. It does not say that a write ever
+    /// succeeds, nor what of it is fixed before the next barrier.
     fn write(&mut self, page: u32, from: &Page) -> Result<(), Failed>
         requires { page < (seen self.old).pages }
         ensures cause { OneFault result (seen self.old).faults (seen self.new).faults }
         ensures call { OneCall (WriteEntry page from.now result) (seen self.old) (seen self.new) };
 
-    /// The barrier: fixes the newest content of every page. A failed one changes nothing.
+    /// The barrier: fixes the newest content of every page. A failed one changes nothing. It does not say that a barrier
+    /// ever succeeds.
     fn flush(&mut self) -> Result<(), Failed>
         ensures cause { OneFault result (seen self.old).faults (seen self.new).faults }
         ensures call { OneCall (FlushEntry result) (seen self.old) (seen self.new) };

@@ -120,7 +120,7 @@ impl MemDevice {
     ghost use Rattle.page_device.specs.Memory.{with_entry, lost_call, beginning, taken_pages, AllBelow, IsQuiet, ShowsCall};
 
     /// A device that begins with these pages fixed, nothing pending, an empty log and no planned
-    /// failure. Takes no memory.
+    /// failure. Takes no memory, which no clause says.
     pub fn holding(alloc: Global, pages: Vec<Page>) -> MemDevice
         requires { length pages.items < 2 ^ 32 }
         ensures told { memory_seen result ≡ telling (length pages.items) 0 0 (at_rest pages.items) [] }
@@ -147,7 +147,7 @@ impl MemDevice {
 
     /// Makes the write or barrier of this number fail, counted from 1 as `calls` counts. A failing
     /// write is taken where `taken` is true; a failing barrier changes nothing. Of two plans for one
-    /// call the later one counts. After an error nothing is changed.
+    /// call the later one counts. After an error nothing is changed. It does not say that there is memory for the plan.
     pub fn fail_call(&mut self, call: u64, taken: bool) -> Result<(), NoMemory>
         ensures ok { OnOk result (self.new ≡ record self.old { plans = self.old.plans ++ record { call = call; taken = taken } ∷ [] }) }
         ensures err { OnErr result (self.new ≡ self.old) }
@@ -159,7 +159,7 @@ impl MemDevice {
     }
 
     /// Makes the read of this number fail, counted from 1 as `reads` counts. After an error nothing is
-    /// changed.
+    /// changed. It does not say that there is memory for the plan.
     pub fn fail_read(&mut self, read: u64) -> Result<(), NoMemory>
         ensures ok { OnOk result (self.new ≡ record self.old { failing_reads = self.old.failing_reads ++ read ∷ [] }) }
         ensures err { OnErr result (self.new ≡ self.old) }
@@ -171,7 +171,7 @@ impl MemDevice {
     }
 
     /// Makes the `room` of this number fail, counted from 1 over all calls of it. After an error nothing
-    /// is changed.
+    /// is changed. It does not say that there is memory for the plan.
     pub fn fail_room(&mut self, room: u64) -> Result<(), NoMemory>
         ensures ok { OnOk result (self.new ≡ record self.old { failing_rooms = self.old.failing_rooms ++ room ∷ [] }) }
         ensures err { OnErr result (self.new ≡ self.old) }
@@ -184,7 +184,7 @@ impl MemDevice {
 
     /// Makes the read of this number give this page, counted from 1 as `reads` counts. From then on the
     /// device is not honest, and tells so. Of two lies for one read the later one counts, and a read that
-    /// is also planned to fail fails. After an error nothing is changed.
+    /// is also planned to fail fails. After an error nothing is changed. It does not say that there is memory for the lie.
     pub fn lie(&mut self, read: u64, page: &Page) -> Result<(), NoMemory>
         ensures ok { OnOk result (self.new ≡ record self.old { lies = self.old.lies ++ record { read = read; page = page.now } ∷ [] }) }
         ensures told { OnOk result ((memory_seen self.new).honest ≡ false) }
@@ -198,7 +198,7 @@ impl MemDevice {
     }
 
     /// Makes room in the log for at least so many further writes and barriers, which then fail only
-    /// where it is planned. After an error nothing is changed.
+    /// where it is planned. After an error nothing is changed. It does not say that there is memory for them.
     pub fn reserve(&mut self, calls: u64) -> Result<(), NoMemory>
         ensures ok { OnOk result (self.new ≡ record self.old { spare = max self.old.spare calls }) }
         ensures err { OnErr result (self.new ≡ self.old) }
@@ -213,7 +213,7 @@ impl MemDevice {
     }
 
     /// The write and barrier calls so far, in order, without those for whose entry no memory was found. Each page that
-    /// was written is one of the device.
+    /// was written is one of the device. It does not say which calls are left out; `calls` counts them too.
     pub fn log(&self) -> &[LogEntry]
         ensures kept { result.now ≡ self.now.kept }
         ensures within { AllBelow (taken_pages self.now.all) (length self.now.start) }
@@ -221,14 +221,14 @@ impl MemDevice {
         self.log.kept()
     }
 
-    /// The number of write and barrier calls so far, failed ones too. It stands still at its end.
+    /// The number of write and barrier calls so far, failed ones too. It stands still at its end. It does not say which.
     pub fn calls(&self) -> u64
         ensures { result ≡ self.now.calls }
     {
         self.calls
     }
 
-    /// The number of reads so far, failed ones too. It stands still at its end.
+    /// The number of reads so far, failed ones too. It stands still at its end. It does not say which.
     pub fn reads(&self) -> u64
         ensures { result ≡ self.now.reads }
     {
@@ -240,7 +240,8 @@ impl MemDevice {
     /// since the last barrier, or the last one where there are fewer. A page past the end of `choice` takes
     /// 0. A moment past the last call is the one after all calls. The device has as many pages as this one
     /// has now. Each image that a crash may leave at that moment is given by some choice, as long as there
-    /// were fewer than 2^32 calls (`left_is_chosen`). Goes over the pages and the whole log.
+    /// were fewer than 2^32 calls (`left_is_chosen`). Goes over the pages and the whole log. It does not say that there is
+    /// memory for the image.
     pub fn image(&self, at: u64, choice: &[u32]) -> Result<MemDevice, NoMemory>
         ensures chosen { IfOk result (λ image. IsChosen (state_after (at_rest self.now.start) (take at self.now.all)) choice.now image.start) }
         ensures left { IfOk result (λ image. LeftAt (at_rest self.now.start) self.now.all at image.start) }
