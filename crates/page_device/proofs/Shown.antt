@@ -1,5 +1,5 @@
 -- What the log of a device in memory shows of one call, and that nothing else of it changed.
-use Rattle.std.proofs.Common.{◌≡◌, ◌⊎◌, ℕ, List, [], ◌∷◌, ◌++◌, inl, inr, ⊎_elim, refl, sym, ◌∙◌, ap, subst, Result, Ok, Err, IsErr}
+use Rattle.std.proofs.Common.{◌≡◌, ℕ, List, inl, inr, ⊎_elim, refl, sym, ap, subst, Result, Ok, Err, IsErr}
 use Rattle.page_device.specs.declared.device.LogEntry.{LogEntry}
 use Rattle.page_device.specs.declared.error.Failed.{Failed}
 use Rattle.page_device.specs.Block.{Block}

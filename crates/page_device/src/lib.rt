@@ -12,6 +12,7 @@ mod file;
 mod image;
 mod log;
 mod memory;
+mod page_file;
 #[cfg(test)]
 mod tests;
 
@@ -20,3 +21,4 @@ pub use device::{Device, End, LogEntry};
 pub use error::{Damage, Failed, NoMemory};
 pub use file::FileDevice;
 pub use memory::{Lie, MemDevice, Plan};
+pub use page_file::PageFile;

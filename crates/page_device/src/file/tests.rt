@@ -2,9 +2,9 @@
 
 use super::FileDevice;
 use crate::tests::{got, put};
-use crate::{Device, Failed};
+use crate::{Device, Failed, PageFile};
 use std::alloc::{Allocator, Global};
-use std::fs::{Metadata, OpenFile, OpenOptions};
+use std::fs::{Metadata, OpenFile, OpenOptions, TryLockError};
 use std::io::{ErrorKind, Read, Seek, SeekFrom, Write};
 use std::rt::Files;
 use std::test::Fail;
@@ -28,10 +28,10 @@ type Answer = (Result<u8, Failed>, u32, u64);
 
 // A file that is not there at first.
 const OWN_FILE: [(Step, Answer); 19] = [
+    (Step::Room(0), (Ok(0), 0, 0)),
     (Step::Flush, (Err(Failed), 0, 1)),
-    (Step::Room(0), (Ok(0), 0, 1)),
-    (Step::Flush, (Ok(0), 0, 1)),
     (Step::Room(2), (Ok(0), 2, 1)),
+    (Step::Room(0), (Ok(0), 2, 1)),
     (Step::Got(1), (Ok(0), 2, 1)),
     (Step::Put(1, 9), (Ok(0), 2, 1)),
     (Step::Flush, (Ok(0), 2, 1)),
@@ -82,6 +82,22 @@ const READ_ONLY_FILE: [(Step, Answer); 6] = [
     (Step::Flush, (Ok(0), 1, 2)),
 ];
 
+// A file that another device has open.
+const FILE_IN_USE: [(Step, Answer); 4] = [
+    (Step::Room(0), (Err(Failed), 0, 1)),
+    (Step::Room(3), (Err(Failed), 0, 2)),
+    (Step::Flush, (Err(Failed), 0, 3)),
+    (Step::Room(1), (Err(Failed), 0, 4)),
+];
+
+// A new file whose folder can't be fixed.
+const UNNAMED_FILE: [(Step, Answer); 4] = [
+    (Step::Room(0), (Ok(0), 0, 0)),
+    (Step::Room(1), (Err(Failed), 0, 1)),
+    (Step::Room(0), (Err(Failed), 0, 2)),
+    (Step::Room(1), (Err(Failed), 0, 3)),
+];
+
 // A file of which only one page can be fixed: a sync fails at the opening, of a new page, and at a barrier.
 const UNSYNCED_FILE: [(Step, Answer); 22] = [
     (Step::Length(8192), (Ok(0), 0, 0)),
@@ -108,14 +124,19 @@ const UNSYNCED_FILE: [(Step, Answer); 22] = [
     (Step::Got(0), (Err(Failed), 1, 4)),
 ];
 
-// Paths that do not open: in a missing folder, of a folder, and none at all.
-const UNOPENED: [(Step, Answer); 3] = [
+// A folder, which does not open.
+const FOLDER: [(Step, Answer); 3] = [
     (Step::Room(0), (Err(Failed), 0, 1)),
     (Step::Flush, (Err(Failed), 0, 2)),
     (Step::Room(1), (Err(Failed), 0, 3)),
 ];
 
-const UNUSABLE: [&str; 3] = ["no_such_folder/image", ".", ""];
+// Paths at which no file can be made: in a missing folder, and none at all.
+const UNMADE: [(Step, Answer); 3] = [
+    (Step::Room(0), (Ok(0), 0, 0)),
+    (Step::Flush, (Err(Failed), 0, 1)),
+    (Step::Room(1), (Err(Failed), 0, 2)),
+];
 
 // What is wrong with the files of a system.
 #[derive(Clone, Copy, Drop)]
@@ -124,6 +145,8 @@ enum Trouble {
     ReadOnly,
     // Of a longer file a sync fails.
     SyncsAtMost(u64),
+    // Of a folder a sync fails.
+    NoFolders,
 }
 
 // A system whose files have some trouble.
@@ -175,12 +198,29 @@ impl<F: Read + Write + Seek + OpenFile + Drop> OpenFile for TroubledFile<F> {
             Trouble::SyncsAtMost(bytes) if self.file.metadata()?.len() > bytes => {
                 Err(io::Error::from(ErrorKind::Other))
             }
+            Trouble::NoFolders if self.file.metadata()?.is_dir() => {
+                Err(io::Error::from(ErrorKind::Other))
+            }
             _ => self.file.sync_all(),
         }
     }
 
     fn sync_data(&self) -> io::Result<()> {
         self.sync_all()
+    }
+}
+
+impl<F: Read + Write + Seek + PageFile + Drop> PageFile for TroubledFile<F> {
+    fn read_page_at(&self, into: &mut [u8], place: u64) -> io::Result<()> {
+        self.file.read_page_at(into, place)
+    }
+
+    fn write_page_at(&self, from: &[u8], place: u64) -> io::Result<()> {
+        self.file.write_page_at(from, place)
+    }
+
+    fn lock_alone(&self) -> Result<(), TryLockError> {
+        self.file.lock_alone()
     }
 }
 
@@ -191,10 +231,12 @@ impl<'r, R: Files> Files for Troubled<'r, R> {
 
     fn open_file(&self, how: &OpenOptions, path: &str) -> io::Result<TroubledFile<R::File>> {
         let trouble = self.trouble;
-        let file = match trouble {
-            Trouble::ReadOnly => fs::open(self.files, path)?,
-            Trouble::SyncsAtMost(_) => self.files.open_file(how, path)?,
-        };
+        if let Trouble::ReadOnly = trouble
+            && how.asks_write()
+        {
+            return Err(io::Error::from(ErrorKind::PermissionDenied));
+        }
+        let file = self.files.open_file(how, path)?;
         Ok(TroubledFile { file, trouble })
     }
 
@@ -236,7 +278,10 @@ impl<'r, R: Files> Files for Troubled<'r, R> {
 }
 
 // Makes the file of the device so many bytes long.
-fn set_length<R: Files>(device: &FileDevice<'_, R>, bytes: u64) -> io::Result<()> {
+fn set_length<R: Files>(device: &FileDevice<'_, R>, bytes: u64) -> io::Result<()>
+where
+    R::File: PageFile,
+{
     let file = OpenOptions::new()
         .write(true)
         .create(true)
@@ -245,7 +290,10 @@ fn set_length<R: Files>(device: &FileDevice<'_, R>, bytes: u64) -> io::Result<()
 }
 
 // Does the step.
-fn follow<'r, R: Files>(device: &mut FileDevice<'r, R>, step: Step) -> Result<u8, Failed> {
+fn follow<'r, R: Files>(device: &mut FileDevice<'r, R>, step: Step) -> Result<u8, Failed>
+where
+    R::File: PageFile,
+{
     match step {
         Step::Room(pages) => device.room(pages)?,
         Step::Put(page, number) => put(device, page, number)?,
@@ -267,7 +315,10 @@ fn follow<'r, R: Files>(device: &mut FileDevice<'r, R>, step: Step) -> Result<u8
 }
 
 // Does the step, and sees what it answers.
-fn answer<'r, R: Files>(device: &mut FileDevice<'r, R>, step: Step) -> Answer {
+fn answer<'r, R: Files>(device: &mut FileDevice<'r, R>, step: Step) -> Answer
+where
+    R::File: PageFile,
+{
     let done = follow(device, step);
     (done, device.pages(), device.faults)
 }
@@ -276,7 +327,10 @@ fn answer<'r, R: Files>(device: &mut FileDevice<'r, R>, step: Step) -> Answer {
 fn first_wrong<'r, R: Files>(
     device: &mut FileDevice<'r, R>,
     steps: &[(Step, Answer)],
-) -> Option<usize> {
+) -> Option<usize>
+where
+    R::File: PageFile,
+{
     for (i, row) in steps.iter().enumerate() {
         if answer(device, row.0) != row.1 {
             return Some(i);
@@ -286,7 +340,10 @@ fn first_wrong<'r, R: Files>(
 }
 
 // The device of a path at which there is no file.
-fn no_file<'r, R: Files>(rt: &'r R, alloc: Global, path: &str) -> Result<FileDevice<'r, R>, Fail> {
+fn no_file<'r, R: Files>(rt: &'r R, alloc: Global, path: &str) -> Result<FileDevice<'r, R>, Fail>
+where
+    R::File: PageFile,
+{
     if rt.metadata(path).is_ok() {
         rt.remove_file(path)?;
     }
@@ -339,10 +396,46 @@ fn ends_at_a_failed_sync(rt: HostRuntime) -> Result<(), Fail> {
 }
 
 #[test]
-fn counts_a_path_that_does_not_open(rt: HostRuntime) -> Result<(), Fail> {
-    for path in UNUSABLE {
+fn names_a_new_file_first(rt: HostRuntime) -> Result<(), Fail> {
+    let path = "page_device_unnamed.img";
+    let files = Troubled {
+        files: &rt,
+        trouble: Trouble::NoFolders,
+    };
+    let mut device = no_file(&files, rt.alloc(), path)?;
+    assert_eq!(rt; first_wrong(&mut device, &UNNAMED_FILE), None);
+    assert_eq!(rt; fs::metadata(&rt, path)?.len(), 0);
+    fs::remove_file(&rt, path)?;
+    Ok(())
+}
+
+#[test]
+fn has_its_file_alone(rt: HostRuntime) -> Result<(), Fail> {
+    let path = "page_device_in_use.img";
+    let mut device = no_file(&rt, rt.alloc(), path)?;
+    device.room(2)?;
+    let mut second = FileDevice::named(&rt, String::from_str(rt.alloc(), path)?);
+    assert_eq!(rt; first_wrong(&mut second, &FILE_IN_USE), None);
+    assert_eq!(rt;
+        second.reason().map(|why| why.kind()),
+        Some(ErrorKind::ResourceBusy)
+    );
+    assert_eq!(rt; fs::metadata(&rt, path)?.len(), 8192);
+    fs::remove_file(&rt, path)?;
+    Ok(())
+}
+
+#[test]
+fn tells_why_a_path_does_not_open(rt: HostRuntime) -> Result<(), Fail> {
+    let mut folder = FileDevice::named(&rt, String::from_str(rt.alloc(), ".")?);
+    assert_eq!(rt; first_wrong(&mut folder, &FOLDER), None);
+    assert_eq!(rt;
+        folder.reason().map(|why| why.kind()),
+        Some(ErrorKind::IsADirectory)
+    );
+    for path in ["no_such_folder/image", ""] {
         let mut device = FileDevice::named(&rt, String::from_str(rt.alloc(), path)?);
-        assert_eq!(rt; first_wrong(&mut device, &UNOPENED), None, "of '{path}'");
+        assert_eq!(rt; first_wrong(&mut device, &UNMADE), None, "of '{path}'");
     }
     Ok(())
 }

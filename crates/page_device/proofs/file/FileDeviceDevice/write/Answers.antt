@@ -6,3 +6,6 @@ returns-clause-call g c = quiet_write _ _ _ _ _ _ _ c.counted-2.ensures.pages
 
 pub returns-then-self-clause-call : goal.returns-then-self-clause-call
 returns-then-self-clause-call g c = quiet_write _ _ _ _ _ _ _ c.counted.ensures.pages
+
+pub returns-in-Some-clause-call : goal.returns-in-Some-clause-call
+returns-in-Some-clause-call g c = quiet_write _ _ _ _ _ _ _ c.counted-in-Some.ensures.pages

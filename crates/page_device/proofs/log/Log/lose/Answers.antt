@@ -17,7 +17,10 @@ returns-clause-one c =
     let front = entries_of c.self.inside.entries.items c.self.inside.lost_before.items in
     let was = ap (λ (v : LogView). length v.all) c.self.view_is in
     omega (
-      arith, was,
-      length-append front (replicate c.self.inside.lost lost_call), length-replicate c.self.inside.lost lost_call,
-      length-append front (replicate c.saturating_add-self-inside.result lost_call), length-replicate c.saturating_add-self-inside.result lost_call,
+      arith,
+      was,
+      length-append front (replicate c.self.inside.lost lost_call),
+      length-replicate c.self.inside.lost lost_call,
+      length-append front (replicate c.saturating_add-self-inside.result lost_call),
+      length-replicate c.saturating_add-self-inside.result lost_call,
     )

@@ -3,8 +3,7 @@ use Rattle.page_device.specs.declared.device.LogEntry.TheVariants.{Flush}
 use Rattle.page_device.specs.declared.device.End.TheVariants.{Done}
 use Rattle.page_device.specs.Memory.{MemoryView}
 use Rattle.page_device.proofs.Calls.{kept_call}
-use Rattle.page_device.specs.Meaning.{IsRefused, FlushEntry}
-use Rattle.page_device.proofs.Shown.{shows_entry, shows_from, shows_planned, shows_weaker, refused_flush}
+use Rattle.page_device.proofs.Shown.{shows_entry, shows_planned}
 use Rattle.page_device.proofs.memory.MemDeviceDevice.flush.Goals as goal
 
 pub returns-then-keep_quiet-clause-call : goal.returns-then-keep_quiet-clause-call
