@@ -24,11 +24,11 @@ pub reads_none : (d : Meaning) → Reads 0 d d
 reads_none d = record { counted = λ _ few. omega (arith, few) }
 
 -- some reads, and then others
-pub reads_then : (made more : ℕ) (a b c : Meaning) → b.tells_reads ≡ a.tells_reads → Reads made a b → Reads more b c → Reads (made + more) a c
-reads_then made more a b c kind h k = record {
+pub reads_then : (made more all : ℕ) (a b c : Meaning) → all ≡ made + more → SameKind a b → Reads made a b → Reads more b c → Reads all a c
+reads_then made more all a b c sum kind h k = record {
   counted = λ t few. let first : b.reads ≡ raised a.reads made = h.counted t few in
-      let next : c.reads ≡ raised b.reads more = k.counted (kind ∙ t) (omega (arith, first)) in
-      omega (arith, first, next);
+      let next : c.reads ≡ raised b.reads more = k.counted (kind.tells_reads ∙ t) (omega (arith, first)) in
+      omega (arith, sum, first, next);
 }
 
 -- the image that a device holds, where it is honest and tells its pages
