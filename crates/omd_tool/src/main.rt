@@ -46,7 +46,22 @@ fn run_words(rt: &HostRuntime, words: env::Args) -> Status {
     let mut device = FileDevice::named(rt, path);
     let mut source = StdSource::new(rt.stdin());
     let mut sink = StdSink::new(rt.stdout());
-    run(rt.alloc(), &words, &mut source, &mut sink, &mut device)
+    let status = run(rt.alloc(), &words, &mut source, &mut sink, &mut device);
+    tell(rt, &device);
+    status
+}
+
+// Puts what the system said of the image, on standard error: that it could not be locked, and the reason of the
+// first call that failed, also where a session answered `fault` and went on. Where standard error fails there is
+// nothing left to tell it to.
+fn tell(rt: &HostRuntime, device: &FileDevice<'_, HostRuntime>) {
+    let image = device.path();
+    if let Some(why) = device.unlocked() {
+        let _ = eprintln!(rt; "omd_tool: {image}: opened without a lock: {why}");
+    }
+    if let Some(why) = device.reason() {
+        let _ = eprintln!(rt; "omd_tool: {image}: {why}");
+    }
 }
 
 // What stands in for standard input, output and error, where the program began with them closed. A file that
