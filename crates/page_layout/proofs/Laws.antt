@@ -6,13 +6,13 @@ use Rattle.page_layout.specs.Entries.{table_at}
 use Rattle.page_layout.specs.declared.shape.Table.TheVariants.{Map, Count, Print}
 
 -- a page of each table, by its number
-map_table : (shape : ShapeView) (n : ℕ) → 1 ≤ n → n < first_count_page shape → table_at shape n ≡ Some Map
+pub map_table : (shape : ShapeView) (n : ℕ) → 1 ≤ n → n < first_count_page shape → table_at shape n ≡ Some Map
 map_table shape n low high = rw (ne_eqb n 0 (λ is. omega (arith, is)), lt-ltb n (first_count_page shape) high) refl
 
-count_table : (shape : ShapeView) (n : ℕ) → first_count_page shape ≤ n → n < first_print_page shape → table_at shape n ≡ Some Count
+pub count_table : (shape : ShapeView) (n : ℕ) → first_count_page shape ≤ n → n < first_print_page shape → table_at shape n ≡ Some Count
 count_table shape n low high = rw (ne_eqb n 0 (λ is. omega (arith, is)), le-ltb n (first_count_page shape) low, lt-ltb n (first_print_page shape) high) refl
 
-print_table : (shape : ShapeView) (n : ℕ) → first_print_page shape ≤ n → n < first_data_page shape → table_at shape n ≡ Some Print
+pub print_table : (shape : ShapeView) (n : ℕ) → first_print_page shape ≤ n → n < first_data_page shape → table_at shape n ≡ Some Print
 print_table shape n low high = rw (ne_eqb n 0 (λ is. omega (arith, is)), le-ltb n (first_count_page shape) (omega arith), le-ltb n (first_print_page shape) low, lt-ltb n (first_data_page shape) high) refl
 
 -- the superblock, and every page from the first data page on, serve none

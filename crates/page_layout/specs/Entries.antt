@@ -60,9 +60,11 @@ abbrev pub print_bytes : Option (List ℕ) → List ℕ
 print_bytes None = replicate 24 0
 print_bytes (Some print) = 1 ∷ 0 ∷ 0 ∷ 0 ∷ print
 
--- one print entry is set, well formed; every other entry stays, and every other byte of the page
+-- One print entry is set, well formed; every other entry stays, and every other byte of the page. Where the entry is that of
+-- a data page, a well-formed page stays so.
 pub record SetsPrint (old : List ℕ) (i : ℕ) (print : Option (List ℕ)) (new : List ℕ) : Type 0 where
   pub entry : print_entry_of new i ≡ print
   pub well_formed : IsPrintEntry new i
   pub others : (j : ℕ) → j ≢ i → print_entry_of new j ≡ print_entry_of old j
   pub bytes : (k : ℕ) → (k < 24 * i) ⊎ (24 * i + 24 ≤ k) → slice_index new k ≡ slice_index old k
+  pub formed : (shape : ShapeView) (k : ℕ) → 170 * k + i < shape.pages → IsPrintPage shape k old → IsPrintPage shape k new

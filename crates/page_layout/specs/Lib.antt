@@ -3,3 +3,4 @@ pub mod Shape
 pub mod Tables
 pub mod Entries
 pub mod Fingerprint
+pub mod Formed

@@ -6,6 +6,7 @@
 
 mod entries;
 mod faults;
+mod formed;
 mod numbers;
 mod prints;
 mod shape;
@@ -16,6 +17,7 @@ mod zeros;
 
 pub use entries::{count_entry, map_entry, set_count_entry, set_map_entry, used_entries};
 pub use faults::{MAX_COUNT, table_fault};
+pub use formed::pages_are_tested;
 pub use prints::{print_entry, set_print_entry};
 pub use shape::{BadShape, Shape, Table};
 pub use superblock::{NotFormatted, read_super, super_page};

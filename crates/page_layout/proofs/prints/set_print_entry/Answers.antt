@@ -12,4 +12,4 @@ pub returns : goal.returns
 returns c =
     let new : List ℕ = put_mid (24 * c.args.i) (24 * c.args.i + 24 - 24 * c.args.i) c.page.inside.0 c.copy_from_slice.new.self in
     subst (λ (l : List ℕ). SetsPrint l c.args.i c.args.print new) c.page.view_is
-    (sets_print c.page.inside.0 c.args.i c.args.print new (omega (arith, c.page.told)) (omega (arith, ap length c.entry_bytes.ensures)) (placed c.page.inside.0 c.copy_from_slice.new.self (print_bytes c.args.print) (24 * c.args.i) (c.copy_from_slice.ensures.after ∙ c.entry_bytes.ensures)))
+    (sets_print c.page.inside.0 c.args.i c.args.print new c.requires (omega (arith, c.page.told)) (omega (arith, ap length c.entry_bytes.ensures)) (placed c.page.inside.0 c.copy_from_slice.new.self (print_bytes c.args.print) (24 * c.args.i) (c.copy_from_slice.ensures.after ∙ c.entry_bytes.ensures)))
