@@ -13,7 +13,7 @@ use Rattle.birth_marks.specs.declared.births.Met.{Met}
 use Rattle.birth_marks.specs.declared.pages.Mark.{Mark}
 use Rattle.birth_marks.specs.Pages.{PagesView, is_known, mark_of, settled}
 use Rattle.birth_marks.specs.Calls.{same_slot}
-use Rattle.birth_marks.specs.Births.{BirthsView, Changed, FixedAll, Same, TriedAt, WrittenAt, first_of, is_after, is_live, is_tried, left_in, meets, met_in, moment_in, page_in, place_in, record_in, recorded_in, value_in, written_in}
+use Rattle.birth_marks.specs.Births.{BirthsView, Changed, FixedAll, PlacedAt, Same, TriedAt, WrittenAt, first_of, is_after, is_live, is_tried, left_in, meets, met_in, moment_in, page_in, place_in, record_in, recorded_in, value_in, written_in}
 use Rattle.birth_marks.specs.Kept.{AreBehind}
 
 module _ (pages later : PagesView) where
@@ -281,6 +281,15 @@ module _ (b c : BirthsView) (slot : Slot) (at from to moment : ℕ) (is : AreBeh
       here : (v : ℕ) → met_in c slot v ≡ ((same_slot slot slot && (not (recorded_in b slot) && eqb from v)) || met_in b slot v)
       here v = rw (record_here slot (slot_same slot), now_live, slot_same slot, moment_here v, tried_off)
           (met_here v (record_in b slot) (moment_in b slot v) (λ h. ap (moment_in b slot) (sym h)) (is.met slot v) (is.first slot) was_is left)
+
+  pub placed_is : PlacedAt b c slot at
+  placed_is = record {
+    recorded = λ s. elim (cases_Bool (same_slot slot s)) [
+      | inl e ↦ rw (record_here s e, now_live, e)
+      | inr e ↦ live_same b.pages c.pages (λ p. rw (marks p)) (record_in b s) (record_in c s) (record_there s e) ∙ rw e
+    ];
+    place = λ s. elim (cases_Bool (same_slot slot s)) [ inl e ↦ ap page_in (record_here s e) ∙ rw e | inr e ↦ ap page_in (record_there s e) ∙ rw e ];
+  }
 
   pub changed_behind : (recorded_in b slot ≡ true → place_in b slot ≡ at) → AreBehind c (moment + 1)
   changed_behind stays = record {

@@ -6,7 +6,7 @@ ghost use Rattle.birth_marks.specs.contracts.births.PairPartialEq.TheImpl.{eq-va
 ghost use Rattle.birth_marks.specs.Calls.{same_slot};
 ghost use Rattle.birth_marks.specs.Pages.{is_known, mark_of, settled};
 ghost use Rattle.birth_marks.specs.Kept.{Swept};
-ghost use Rattle.birth_marks.specs.Births.{Changed, FixedAll, Same, TriedAt, WrittenAt, first_of, is_after, is_live, is_tried, is_unborn_in, place_in, record_in, recorded_in, value_in};
+ghost use Rattle.birth_marks.specs.Births.{Changed, FixedAll, PlacedAt, Same, TriedAt, WrittenAt, first_of, is_after, is_live, is_tried, is_unborn_in, place_in, record_in, recorded_in, value_in};
 
 use crate::pages::Pages;
 use crate::{NoMemory, Slot};
@@ -247,8 +247,8 @@ impl Births {
     pub fn change(&mut self, slot: Slot, at: u32, from: u32, to: u32)
         requires spare { 0 < self.old.spare }
         requires place { recorded_in self.old slot ≡ true → place_in self.old slot ≡ at }
-        requires value { recorded_in self.old slot ≡ true → value_in self.old slot ≡ from }
-        ensures changed { Changed self.old self.new slot at from to }
+        ensures changed { (recorded_in self.old slot ≡ true → value_in self.old slot ≡ from) → Changed self.old self.new slot at from to }
+        ensures placed { PlacedAt self.old self.new slot at }
         ensures spare { self.new.spare ≡ self.old.spare - 1 }
     {
         let was = self.live(slot);

@@ -7,7 +7,7 @@ use Rattle.birth_marks.specs.Calls.{same_slot}
 use Rattle.birth_marks.specs.Births.{BirthsView, first_of, is_after, is_tried, moment_in, place_in, record_in, recorded_in, value_in}
 use Rattle.birth_marks.specs.declared.pages.Mark.{Mark}
 use Rattle.birth_marks.specs.Pages.{mark_of}
-use Rattle.birth_marks.proofs.TableLemmas.{changed_behind, changed_is}
+use Rattle.birth_marks.proofs.TableLemmas.{changed_behind, changed_is, placed_is}
 use Rattle.birth_marks.proofs.births.Births.change.Goals as goal
 
 abbrev before : goal.After-change → BirthsView
@@ -51,6 +51,10 @@ invariant_of-self c = (
 )
 
 pub returns-clause-changed : goal.returns-clause-changed
-returns-clause-changed c = rw (sym c.self.view_is)
+returns-clause-changed c value = rw (sym c.self.view_is)
     (changed_is (before c) _ c.args.slot c.args.at c.args.from c.args.to c.self.inside.moment c.self.invariant.0 c.live-was.result (was_is c) (records_are c) _ (moments_are c) _ (last_is c) c.change.ensures.mark c.change.ensures.known
-    (subst (λ b. recorded_in b c.args.slot ≡ true → value_in b c.args.slot ≡ c.args.from) (sym c.self.view_is) c.requires.value))
+    (subst (λ b. recorded_in b c.args.slot ≡ true → value_in b c.args.slot ≡ c.args.from) (sym c.self.view_is) value))
+
+pub returns-clause-placed : goal.returns-clause-placed
+returns-clause-placed c = rw (sym c.self.view_is)
+    (placed_is (before c) _ c.args.slot c.args.at c.args.from c.args.to c.self.inside.moment c.self.invariant.0 c.live-was.result (was_is c) (records_are c) _ (moments_are c) _ (last_is c) c.change.ensures.mark c.change.ensures.known)
