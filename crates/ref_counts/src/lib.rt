@@ -2,7 +2,8 @@
 //!
 //! A count page has 1024 counts, and stands behind the map pages. A call is given the page in which the
 //! count stands, wherever that page is kept. `specs/Counts.antt` says what a count is, and what it is to
-//! set one. A count goes up and down by one, so that each step can be ordered after what it stands for.
+//! set one. A count goes up and down by one, so that each step can be ordered after what it stands for;
+//! it is set at once where a correction finds it too high, or a fresh page is counted whatever stood there.
 #![tactic(auto)]
 
 ghost use Rattle.std.specs.Prelude.{◌≡◌, ◌+◌, ◌-◌, ◌<◌, ◌≤◌};
@@ -49,4 +50,16 @@ pub fn lower(shape: &Shape, page: &mut Page, p: u32)
     let (_, entry) = shape.count_place(p);
     let lowered = count_entry(page, entry) - 1;
     set_count_entry(page, entry, lowered);
+}
+
+/// Sets the count of the data page `p`, whatever it was, in `page`, its count page. No other count changes,
+/// nor any other byte of the page. The new count is at most [`MAX_COUNT`].
+pub fn set(shape: &Shape, page: &mut Page, p: u32, new_count: u32)
+    requires first { 1 ≤ p }
+    requires last { p ≤ shape.now.pages }
+    requires known { new_count ≤ MAX_COUNT }
+    ensures { SetsCount shape.now page.old p new_count page.new }
+{
+    let (_, entry) = shape.count_place(p);
+    set_count_entry(page, entry, new_count);
 }
