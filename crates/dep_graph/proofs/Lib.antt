@@ -10,3 +10,4 @@ pub mod SearchLemmas
 pub mod WaveLemmas
 pub mod LevelLemmas
 pub mod ReadyLemmas
+pub mod CountLemmas

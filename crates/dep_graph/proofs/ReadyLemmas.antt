@@ -1,7 +1,7 @@
 -- Of the dirty pages of a graph one waits for no write.
-use Rattle.std.proofs.Common.{◌≡◌, ◌⊎◌, inl, inr, ℕ, Bool, true, false, not, ◌&&◌, List, [], ◌∷◌, get_or, refl, sym, ◌∙◌, ap, subst, eqb, eqb-true, eq-eqb}
+use Rattle.std.proofs.Common.{◌≡◌, ◌⊎◌, ◌↔◌, inl, inr, ℕ, Bool, true, false, not, ◌&&◌, List, [], ◌∷◌, get_or, refl, sym, ◌∙◌, ap, subst, eqb, eqb-true, eq-eqb}
 use Rattle.std.specs.List.{list_any}
-use Rattle.std.proofs.lemmas.Bool.{and_from, and_parts, cases_Bool, not-false, not-true, not_from_false, or_cases, or_left, or_right, true≢false}
+use Rattle.std.proofs.lemmas.Bool.{and_from, and_parts, cases_Bool, false_from_ne_true, not-false, not-true, not_from_false, or_cases, or_left, or_right, true≢false}
 use Rattle.dep_graph.specs.declared.Kind.TheVariants.{Live}
 use Rattle.dep_graph.specs.Lists.{Edge, GraphLists, IsGraph, barred_in, dirty_in, is_live, is_ready, live_in, waits_in}
 use Rattle.dep_graph.specs.Pages.{holds}
@@ -74,3 +74,42 @@ pub some_ready : (g : GraphLists) (page : ℕ) → IsGraph g → g.hung ≡ [] �
 some_ready g page graph none_hung h =
     let one = some_free g page graph h in
     (one.0, and_from _ _ one.1.0 (not_from_false _ (no_edge_to g one.0 graph none_hung one.1.1)))
+
+-- an edge that leads to a page is of one kind or the other
+waits_from : (g : GraphLists) (b : ℕ) → waits_in g b ≡ true → (a : ℕ) × ((live_in g a b ≡ true) ⊎ (barred_in g a b ≡ true))
+waits_from g b is =
+    let w = any_where (λ (e : Edge). eqb e.after b) g.edges no_edge is in
+    let e : Edge = get_or g.edges w.0 no_edge in
+    (e.before, elim (cases_Bool (is_live e.kind)) [
+      | inl live ↦ inl (any_at (λ (f : Edge). eqb f.before e.before && (eqb f.after b && is_live f.kind)) g.edges w.0 no_edge w.1 (and_from _ _ (eq-eqb _ _ refl) (and_from _ _ w.2 live)))
+      | inr barrier ↦ inr (any_at (λ (f : Edge). eqb f.before e.before && (eqb f.after b && not (is_live f.kind))) g.edges w.0 no_edge w.1 (and_from _ _ (eq-eqb _ _ refl) (and_from _ _ w.2 (not_from_false _ barrier))))
+    ])
+
+waits_to : (g : GraphLists) (a b : ℕ) → (live_in g a b ≡ true) ⊎ (barred_in g a b ≡ true) → waits_in g b ≡ true
+waits_to g a b (inl live) =
+    let w = any_where (λ (e : Edge). eqb e.before a && (eqb e.after b && is_live e.kind)) g.edges no_edge live in
+    any_at (λ (e : Edge). eqb e.after b) g.edges w.0 no_edge w.1 (and_parts _ _ (and_parts _ _ w.2).1).0
+waits_to g a b (inr barred) =
+    let w = any_where (λ (e : Edge). eqb e.before a && (eqb e.after b && not (is_live e.kind))) g.edges no_edge barred in
+    any_at (λ (e : Edge). eqb e.after b) g.edges w.0 no_edge w.1 (and_parts _ _ (and_parts _ _ w.2).1).0
+
+pub waited_for : (g : GraphLists) (b : ℕ) → (waits_in g b ≡ true) ↔ ((a : ℕ) × ((live_in g a b ≡ true) ⊎ (barred_in g a b ≡ true)))
+waited_for g b = (waits_from g b, λ edge. waits_to g edge.0 b edge.1)
+
+pub none_waits : (g : GraphLists) (b : ℕ) → (waits_in g b ≡ false) ↔ ((a : ℕ) → (live_in g a b ≡ false) × (barred_in g a b ≡ false))
+none_waits g b = (
+  λ off a. (
+    false_from_ne_true _ (λ is. true≢false (sym (waits_to g a b (inl is)) ∙ off)),
+    false_from_ne_true _ (λ is. true≢false (sym (waits_to g a b (inr is)) ∙ off)),
+  ),
+  λ none. false_from_ne_true _ (λ is. let edge = waits_from g b is in elim edge.1 [
+    | inl live ↦ true≢false (sym live ∙ (none edge.0).0)
+    | inr barred ↦ true≢false (sym barred ∙ (none edge.0).1)
+  ]),
+)
+
+pub ready_alone : (g : GraphLists) (b : ℕ) → (is_ready g b ≡ true) ↔ ((dirty_in g b ≡ true) × ((a : ℕ) → (live_in g a b ≡ false) × (barred_in g a b ≡ false)))
+ready_alone g b = (
+  λ is. let parts = and_parts _ _ is in (parts.0, (none_waits g b).0 (not-true _ parts.1)),
+  λ parts. and_from _ _ parts.0 (not_from_false _ ((none_waits g b).1 parts.1)),
+)

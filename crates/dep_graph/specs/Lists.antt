@@ -1,10 +1,10 @@
 -- A graph as contracts see it: plain lists of marks and edges.
-use Rattle.std.specs.Prelude.{◌≡◌, ℕ, ◌+◌, ◌++◌, List, Bool, true, false, not, ◌&&◌, ◌||◌, eqb, map, filter, length}
+use Rattle.std.specs.Prelude.{◌≡◌, ℕ, ◌+◌, ◌-◌, ◌++◌, if◌then◌else◌, List, Bool, true, false, not, ◌&&◌, ◌||◌, eqb, map, filter, length}
 use Rattle.std.specs.List.{list_any}
 use Rattle.dep_graph.specs.declared.Kind.{Kind}
 use Rattle.dep_graph.specs.declared.Kind.TheVariants.{Live, Barrier}
 use Rattle.dep_graph.specs.declared.pairs.Pair.{Pair}
-use Rattle.dep_graph.specs.Pages.{holds, IsRising}
+use Rattle.dep_graph.specs.Pages.{holds, IsRising, placed}
 use Rattle.dep_graph.specs.Paths.{IsAcyclic}
 use Rattle.dep_graph.specs.Rising.{Rises}
 
@@ -57,6 +57,10 @@ is_ready g a = dirty_in g a && not (waits_in g a)
 -- how many pages are dirty or hung
 abbrev pub node_count : GraphLists → ℕ
 node_count g = length g.dirty + length (filter (λ a. not (dirty_in g a)) g.hung)
+
+-- the page is dirty now
+abbrev pub entered : ℕ → GraphLists → GraphLists
+entered page g = record g { dirty = placed page g.dirty; spare_nodes = (if is_node g page then g.spare_nodes else g.spare_nodes - 1) }
 
 -- how many Live edges lead from the page
 abbrev pub waiter_count : GraphLists → ℕ → ℕ

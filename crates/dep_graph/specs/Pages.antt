@@ -1,5 +1,5 @@
 -- Lists of page numbers.
-use Rattle.std.specs.Prelude.{◌≡◌, ℕ, ◌<◌, ◌≤◌, List, Bool, eqb, length, slice_index, Option, Some, None}
+use Rattle.std.specs.Prelude.{◌≡◌, ℕ, ◌<◌, ◌≤◌, List, [], ◌∷◌, Bool, cond, eqb, nat_lt, length, slice_index, Option, Some, None}
 use Rattle.std.specs.List.{list_any}
 use Rattle.dep_graph.specs.Rising.{Rises}
 
@@ -9,6 +9,11 @@ holds pages a = list_any (λ p. eqb p a) pages
 
 abbrev pub IsRising : List ℕ → Type 0
 IsRising pages = Rises (λ a b. a < b) pages
+
+-- the pages with this one where it belongs
+unfoldable pub placed : ℕ → List ℕ → List ℕ
+placed page [] = page ∷ []
+placed page (p ∷ ps) = cond (nat_lt p page) (p ∷ placed page ps) (cond (eqb p page) (p ∷ ps) (page ∷ p ∷ ps))
 
 -- where a page stands among them, or would stand: the pages before it are below it, and the others are not
 pub record IsPlace (pages : List ℕ) (page k : ℕ) : Type 0 where

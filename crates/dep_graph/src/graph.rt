@@ -1,6 +1,6 @@
 // Marks and edges.
 ghost use Rattle.std.specs.Prelude.{◌≡◌, ℕ, ◌+◌, ◌-◌, ◌<◌, ◌≤◌, ◌^◌, ◌||◌, ◌&&◌, ◌↔◌, not, eqb, true, false, length, vec_capacity, [], max, IfOk, OnOk, OnErr, if◌then◌else◌};
-ghost use Rattle.dep_graph.specs.Lists.{dirty_in, hung_in, live_in, barred_in, edge_in, is_live, is_node, is_ready, node_count, waiter_count, waits_in, IsGraph};
+ghost use Rattle.dep_graph.specs.Lists.{dirty_in, hung_in, live_in, barred_in, edge_in, entered, is_live, is_node, is_ready, node_count, waiter_count, waits_in, IsGraph};
 ghost use Rattle.dep_graph.specs.Pages.{IsLeast};
 ghost use Rattle.dep_graph.specs.Marks.{IsGreatestLevel, marks_of};
 ghost use Rattle.dep_graph.specs.Paths.{Closes};
@@ -242,6 +242,9 @@ impl Graph {
         ensures spare_nodes { self.new.spare_nodes ≡ (if is_node self.old page then self.old.spare_nodes else self.old.spare_nodes - 1) }
         ensures spare_edges { self.new.spare_edges ≡ self.old.spare_edges }
         ensures graph { IsGraph self.new }
+        ensures lists { self.new ≡ entered page self.old }
+        ensures nodes { node_count self.new ≡ (if is_node self.old page then node_count self.old else node_count self.old + 1) }
+        ensures marked { length self.new.dirty ≡ (if dirty_in self.old page then length self.old.dirty else length self.old.dirty + 1) }
     {
         if self.dirty.contains(page) {
             return;
@@ -330,6 +333,8 @@ impl Graph {
         ensures spare_nodes { self.new.spare_nodes ≡ self.old.spare_nodes }
         ensures spare_edges { self.new.spare_edges ≡ self.old.spare_edges }
         ensures graph { IsGraph self.new }
+        ensures nodes { node_count self.new ≡ node_count self.old }
+        ensures marked { length self.new.dirty + 1 ≡ length self.old.dirty }
     {
         self.dirty.leave(page);
         self.hung_only += 1;
@@ -352,6 +357,7 @@ impl Graph {
         ensures spare_nodes { self.new.spare_nodes ≡ self.old.spare_nodes }
         ensures spare_edges { self.new.spare_edges ≡ self.old.spare_edges }
         ensures graph { IsGraph self.new }
+        ensures nodes { node_count self.new ≡ length self.old.dirty }
     {
         lower_each(&self.barred, &mut self.dirty);
         self.barred.clear();
@@ -370,6 +376,8 @@ impl Graph {
         ensures spare_nodes { self.new.spare_nodes ≡ self.old.spare_nodes }
         ensures spare_edges { self.new.spare_edges ≡ self.old.spare_edges }
         ensures graph { IsGraph self.new }
+        ensures nodes { node_count self.new ≡ (if dirty_in self.old page && not (hung_in self.old page) then node_count self.old - 1 else node_count self.old) }
+        ensures marked { length self.new.dirty ≡ (if dirty_in self.old page then length self.old.dirty - 1 else length self.old.dirty) }
     {
         if !self.dirty.contains(page) {
             return;
@@ -410,7 +418,8 @@ impl Graph {
 
     /// How many pages are dirty or hung. Constant.
     pub fn nodes(&self) -> u32
-        ensures { result ≡ node_count self.now }
+        ensures count { result ≡ node_count self.now }
+        ensures graph { IsGraph self.now }
     {
         self.dirty() + self.hung_only
     }

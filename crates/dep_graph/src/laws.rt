@@ -1,6 +1,6 @@
 // Laws of graphs that callers above cite.
-ghost use Rattle.std.specs.Prelude.{◌≡◌, ◌⊎◌, ℕ, ◌≤◌, Bool, true, false, List, [], length, cond};
-ghost use Rattle.dep_graph.specs.Lists.{GraphLists, IsGraph, dirty_in, is_ready, live_in};
+ghost use Rattle.std.specs.Prelude.{◌≡◌, ◌⊎◌, ◌↔◌, ℕ, ◌≤◌, Bool, true, false, List, [], length, cond};
+ghost use Rattle.dep_graph.specs.Lists.{GraphLists, IsGraph, barred_in, dirty_in, is_ready, live_in, waits_in};
 ghost use Rattle.dep_graph.specs.Marks.{EndsAreMarked, HasLevels, IsGreatestLevel, IsNode, Marks};
 ghost use Rattle.dep_graph.specs.Paths.{Closes, IsAcyclic};
 ghost use Rattle.dep_graph.specs.Schedules.{IsComplete, Respects, Schedule, Waves, barriers, times_written};
@@ -27,4 +27,11 @@ pub fn edges_into_one_page()
 pub fn some_page_is_ready()
     ensures free { (g : GraphLists) (page : ℕ) → IsGraph g → dirty_in g page ≡ true → (a : ℕ) × ((dirty_in g a ≡ true) × ((b : ℕ) → live_in g b a ≡ false)) }
     ensures ready { (g : GraphLists) (page : ℕ) → IsGraph g → g.hung ≡ [] → dirty_in g page ≡ true → (a : ℕ) × (is_ready g a ≡ true) }
+{}
+
+/// A page waits where an edge of one kind or the other leads to it, from whatever page.
+pub fn edges_are_waited_for()
+    ensures waits { (g : GraphLists) (b : ℕ) → (waits_in g b ≡ true) ↔ ((a : ℕ) × ((live_in g a b ≡ true) ⊎ (barred_in g a b ≡ true))) }
+    ensures none { (g : GraphLists) (b : ℕ) → (waits_in g b ≡ false) ↔ ((a : ℕ) → (live_in g a b ≡ false) × (barred_in g a b ≡ false)) }
+    ensures ready { (g : GraphLists) (b : ℕ) → (is_ready g b ≡ true) ↔ ((dirty_in g b ≡ true) × ((a : ℕ) → (live_in g a b ≡ false) × (barred_in g a b ≡ false))) }
 {}

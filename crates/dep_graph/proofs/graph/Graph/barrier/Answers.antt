@@ -42,3 +42,8 @@ returns-clause-barred c = λ a b. barred_is c.self.inside.live.items c.clear.new
 
 pub returns-clause-graph : goal.returns-clause-graph
 returns-clause-graph c = graph_of c.lower_each.new.dirty c.clear-2.new.self.items 0 c.self.inside.live.items c.clear.new.self.items _ _ (invariant_of-self c).0
+
+pub returns-clause-nodes : goal.returns-clause-nodes
+returns-clause-nodes c =
+    let dirty = ap length c.lower_each.ensures.pages ∙ ap (λ (g : GraphLists). length g.dirty) c.self.view_is in
+    rw c.clear-2.ensures.items (omega (arith, dirty))

@@ -1,14 +1,15 @@
-use Rattle.std.proofs.Common.{◌≡◌, ap, subst, sym, ◌∙◌, inl, inr, ◌+◌, ◌≤◌, Bool, not, ◌&&◌, ℕ, List, length, eqb, arith}
+use Rattle.std.proofs.Common.{◌≡◌, refl, ap, subst, sym, ◌∙◌, inl, inr, ◌+◌, ◌≤◌, Bool, not, ◌&&◌, ℕ, List, length, eqb, arith}
 use Rattle.std.proofs.lemmas.Bool.{and_parts, cases_Bool}
 use Rattle.std.specs.Int.{from_bool}
 use Rattle.dep_graph.specs.declared.pairs.Pair.{Pair}
 use Rattle.dep_graph.specs.Pages.{holds}
 use Rattle.dep_graph.specs.Pairs.{AreRising, has_pair, ends_at, from_page}
-use Rattle.dep_graph.specs.Lists.{GraphLists, IsGraph, live_in, barred_in, waits_in}
+use Rattle.dep_graph.specs.Lists.{GraphLists, IsGraph, barred_in, dirty_in, live_in, waits_in}
 use Rattle.dep_graph.specs.Kept.{IsKept}
 use Rattle.dep_graph.proofs.GraphLemmas.{graph_of, ends_parts, has_not_from, live_is, barred_is, length_parts, none_leads, none_from}
 use Rattle.dep_graph.proofs.PageLemmas.{fewer, shorter_by_one}
 use Rattle.dep_graph.proofs.KeptLemmas.{kept_drop}
+use Rattle.dep_graph.proofs.CountLemmas.{dropped_marked, dropped_nodes}
 use Rattle.dep_graph.proofs.graph.Graph.drop_node.Goals as goal
 
 pub returns-then-not-contains-clause-live : goal.returns-then-not-contains-clause-live
@@ -88,3 +89,27 @@ returns-clause-barred c = λ a b. barred_is c.remove_out_of.new.pairs.items c.se
 
 pub returns-clause-graph : goal.returns-clause-graph
 returns-clause-graph c = graph_of c.lower_each.new.dirty c.self.inside.hung.items (c.self.inside.hung_only + c.from.result) c.remove_out_of.new.pairs.items c.self.inside.barred.items _ _ (invariant_of-self c).0
+
+pub returns-then-not-contains-clause-nodes : goal.returns-then-not-contains-clause-nodes
+returns-then-not-contains-clause-nodes c =
+    let off = sym (ap (λ (g : GraphLists). dirty_in g c.args.page) c.self.view_is) ∙ sym c.contains.ensures ∙ c.if-not-contains.true in
+    rw off refl
+
+pub returns-then-not-contains-clause-marked : goal.returns-then-not-contains-clause-marked
+returns-then-not-contains-clause-marked c =
+    let off = sym (ap (λ (g : GraphLists). dirty_in g c.args.page) c.self.view_is) ∙ sym c.contains.ensures ∙ c.if-not-contains.true in
+    rw off refl
+
+pub returns-clause-nodes : goal.returns-clause-nodes
+returns-clause-nodes c =
+    let was = subst IsGraph c.self.view_is (graph_of c.self.inside.dirty c.self.inside.hung.items c.self.inside.hung_only c.self.inside.live.items c.self.inside.barred.items _ _ c.self.invariant.0) in
+    let dirty = λ (a : ℕ). ap (λ (l : List ℕ). holds l a) c.lower_each.ensures.pages ∙ c.leave.ensures.pages a ∙ ap (λ (g : GraphLists). dirty_in g a && not (eqb a c.args.page)) c.self.view_is in
+    let hung = ap (λ (g : GraphLists). g.hung) c.self.view_is in
+    dropped_nodes c.args.page c.args.self.now _ was (returns-clause-graph c) dirty hung
+
+pub returns-clause-marked : goal.returns-clause-marked
+returns-clause-marked c =
+    let was = subst IsGraph c.self.view_is (graph_of c.self.inside.dirty c.self.inside.hung.items c.self.inside.hung_only c.self.inside.live.items c.self.inside.barred.items _ _ c.self.invariant.0) in
+    let dirty = λ (a : ℕ). ap (λ (l : List ℕ). holds l a) c.lower_each.ensures.pages ∙ c.leave.ensures.pages a ∙ ap (λ (g : GraphLists). dirty_in g a && not (eqb a c.args.page)) c.self.view_is in
+    let hung = ap (λ (g : GraphLists). g.hung) c.self.view_is in
+    dropped_marked c.args.page c.args.self.now _ was (returns-clause-graph c) dirty hung

@@ -4,11 +4,12 @@ use Rattle.dep_graph.specs.declared.pairs.Pair.{Pair}
 use Rattle.dep_graph.specs.Pages.{holds}
 use Rattle.dep_graph.specs.Pairs.{AreRising, has_pair, ends_at, from_page}
 use Rattle.dep_graph.specs.Waits.{waits_for}
-use Rattle.dep_graph.specs.Lists.{GraphLists, is_ready, live_in, barred_in}
+use Rattle.dep_graph.specs.Lists.{GraphLists, IsGraph, barred_in, dirty_in, hung_in, is_ready, live_in}
 use Rattle.dep_graph.specs.Kept.{IsKept}
 use Rattle.dep_graph.proofs.GraphLemmas.{graph_of, hung_room, ends_parts, has_from, has_not_from, live_is, barred_is, length_parts, none_leads}
 use Rattle.dep_graph.proofs.PageLemmas.{fewer, shorter_by_one}
 use Rattle.dep_graph.proofs.KeptLemmas.{kept_wrote}
+use Rattle.dep_graph.proofs.CountLemmas.{wrote_marked, wrote_nodes}
 use Rattle.dep_graph.proofs.graph.Graph.wrote.Goals as goal
 
 pub leave-requires-clause-there : goal.leave-requires-clause-there
@@ -92,3 +93,19 @@ returns-clause-barred c =
 
 pub returns-clause-graph : goal.returns-clause-graph
 returns-clause-graph c = graph_of c.bar_each.new.dirty c.include.new.pages.items (c.self.inside.hung_only + 1) c.remove_out_of.new.pairs.items c.bar_each.new.barred.items _ _ (invariant_of-self c).0
+
+pub returns-clause-nodes : goal.returns-clause-nodes
+returns-clause-nodes c =
+    let was = subst IsGraph c.self.view_is (graph_of c.self.inside.dirty c.self.inside.hung.items c.self.inside.hung_only c.self.inside.live.items c.self.inside.barred.items _ _ c.self.invariant.0) in
+    let on = (and_parts _ _ c.requires).0 in
+    let dirty = λ (a : ℕ). ap (λ (l : List ℕ). holds l a) c.bar_each.ensures.pages ∙ c.leave.ensures.pages a ∙ ap (λ (g : GraphLists). dirty_in g a && not (eqb a c.args.page)) c.self.view_is in
+    let hung = λ (a : ℕ). c.include.ensures.pages a ∙ ap (λ (g : GraphLists). hung_in g a || eqb a c.args.page) c.self.view_is in
+    wrote_nodes c.args.page c.args.self.now _ was (returns-clause-graph c) on dirty hung
+
+pub returns-clause-marked : goal.returns-clause-marked
+returns-clause-marked c =
+    let was = subst IsGraph c.self.view_is (graph_of c.self.inside.dirty c.self.inside.hung.items c.self.inside.hung_only c.self.inside.live.items c.self.inside.barred.items _ _ c.self.invariant.0) in
+    let on = (and_parts _ _ c.requires).0 in
+    let dirty = λ (a : ℕ). ap (λ (l : List ℕ). holds l a) c.bar_each.ensures.pages ∙ c.leave.ensures.pages a ∙ ap (λ (g : GraphLists). dirty_in g a && not (eqb a c.args.page)) c.self.view_is in
+    let hung = λ (a : ℕ). c.include.ensures.pages a ∙ ap (λ (g : GraphLists). hung_in g a || eqb a c.args.page) c.self.view_is in
+    wrote_marked c.args.page c.args.self.now _ was (returns-clause-graph c) on dirty hung
