@@ -5,8 +5,8 @@ use Rattle.engine_model.specs.World.{Layout, World, Has}
 use Rattle.engine_model.specs.Entries.{Apart}
 use Rattle.engine_model.specs.DeviceSteps.{Barrier, IsReady, KeepsMarks, MovesMarks, Taken, barrier_made, page_taken, page_written}
 use Rattle.engine_model.specs.Invariant.{EngineInvariant, Moment}
-use Rattle.engine_model.specs.SmallRuns.{with_barrier, with_taken, with_written}
-use Rattle.engine_model.specs.Schedule.{BarrierDone, WriteDone, WriteTaken}
+use Rattle.engine_model.specs.SmallRuns.{with_barrier, with_refused, with_taken, with_written}
+use Rattle.engine_model.specs.Schedule.{BarrierDone, WriteDone, WriteRefused, WriteTaken}
 use Rattle.engine_model.proofs.Lasts.{has_parts}
 use Rattle.engine_model.proofs.Schedule.{step_keeps}
 
@@ -76,6 +76,11 @@ module _ (lay : Layout) (top : ℕ) (sound : Bool) (apart : Apart lay) (m : Mome
   pub page_taken_kept : (page : ℕ) → IsReady m.world page → EngineInvariant lay top sound (with_taken lay page m)
   page_taken_kept page ready = step_keeps lay top sound apart m (with_taken lay page m) k
       (WriteTaken page (page_taken_is m.world page ready) (page_taken_keeps m.world page) (λ l. refl) refl (λ p. refl))
+
+  pub page_refused_kept : (page : ℕ) → EngineInvariant lay top sound (with_refused lay page m)
+  page_refused_kept page = step_keeps lay top sound apart m (with_refused lay page m) k
+      (WriteRefused page (record { newest = λ a. refl; older = λ a. refl; cached = λ a. refl; dirty = λ a. refl; hung = λ a. refl; live = λ a b. refl; barred = λ a b. refl; queue = refl })
+      (λ l. refl) refl (λ p. refl))
 
   pub page_written_kept : (page : ℕ) → IsReady m.world page → EngineInvariant lay top sound (with_written lay page m)
   page_written_kept page ready = step_keeps lay top sound apart m (with_written lay page m) k

@@ -15,6 +15,27 @@ write_here d page c = newest_push d.since page page c (fixed_at d page) ∙ ap (
 pub write_other : (d : Disk) (page other : ℕ) (c : List ℕ) → other ≢ page → newest_on (after_write d page c) other ≡ newest_on d other
 write_other d page other c ne = newest_push d.since page other c (fixed_at d other) ∙ ap (λ b. cond b c (newest_on d other)) (ne_eqb page other (λ e. ne (sym e)))
 
+-- the newest content of each page after a write
+pub newest_write : (d : Disk) (page a : ℕ) (c : List ℕ) → newest_on (after_write d page c) a ≡ cond (eqb a page) c (newest_on d a)
+newest_write d page a c = elim (cases_eq a page) [
+  | inl e ↦ rw (eq-eqb a page e) (ap (newest_on (after_write d page c)) e ∙ write_here d page c)
+  | inr ne ↦ rw (ne_eqb a page ne) (write_other d page a c ne)
+]
+
+written_after : (xs : List (ℕ × List ℕ)) (page a : ℕ) (c : List ℕ) → written_in (xs ++ (page, c) ∷ []) a ≡ written_in xs a ++ cond (eqb a page) (c ∷ []) []
+written_after [] page a c = elim (cases_eq a page) [
+  | inl e ↦ rw (eq-eqb a page e, eq-eqb page a (sym e))
+  | inr ne ↦ rw (ne_eqb a page ne, ne_eqb page a (λ e. ne (sym e)))
+]
+written_after (x ∷ xs) page a c = elim (cases_eq x.0 a) [
+  | inl e ↦ rw (eq-eqb x.0 a e, written_after xs page a c)
+  | inr ne ↦ rw (ne_eqb x.0 a ne, written_after xs page a c)
+]
+
+-- and all that a crash may leave of it
+pub all_after_write : (d : Disk) (page a : ℕ) (c : List ℕ) → older_on (after_write d page c) a ≡ older_on d a ++ cond (eqb a page) (c ∷ []) []
+all_after_write d page a c = ap (λ xs. fixed_at d a ∷ xs) (written_after d.since page a c)
+
 written_push : (xs : List (ℕ × List ℕ)) (page other : ℕ) (c x : List ℕ) → Has x (written_in (xs ++ (page, c) ∷ []) other)
     → Has x (written_in xs other) ⊎ ((other ≡ page) × (x ≡ c))
 written_push [] page other c x h = elim (cases_eq page other) [

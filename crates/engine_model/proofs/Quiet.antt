@@ -1,6 +1,6 @@
 -- Edits that leave the names, the prints and the queue: a page is touched, a fresh page gets its content, a count is raised, an edge is added.
-use Rattle.std.proofs.Common.{◌≡◌, ◌≢◌, ◌⊎◌, inl, inr, ◌+◌, ◌<◌, ◌≤◌, ℕ, Bool, true, false, not, ◌||◌, ◌&&◌, arith, refl, sym, ap, ◌∙◌, subst, List, eqb, eq-eqb, ne_eqb, eqb-true, true≢false}
-use Rattle.std.proofs.lemmas.Bool.{cases_eq, or_left, or_right, or_cases, and_parts, and_from, not_from_false}
+use Rattle.std.proofs.Common.{◌≡◌, ◌≢◌, ◌⊎◌, inl, inr, ◌+◌, ◌<◌, ◌≤◌, ℕ, Bool, true, false, not, ◌||◌, ◌&&◌, cond, arith, refl, sym, ap, ◌∙◌, subst, List, eqb, eq-eqb, ne_eqb, eqb-true, true≢false}
+use Rattle.std.proofs.lemmas.Bool.{cases_Bool, cases_eq, or_left, or_right, or_cases, and_parts, and_from, not_from_false}
 use Rattle.std.proofs.Math.Bool.{or-false}
 use Rattle.engine_model.specs.World.{Layout, Release, World}
 use Rattle.engine_model.specs.Entries.{Apart, EdgeKind, HasEdge, IsData, IsTable, cached_count}
@@ -9,7 +9,7 @@ use Rattle.engine_model.specs.Known.{Free}
 use Rattle.engine_model.specs.Pool.{Told, after_take}
 use Rattle.engine_model.specs.Invariant.{EngineInvariant, Moment, ToldPool, ToldTake}
 use Rattle.engine_model.specs.Edits.{CacheOnly, ContentEdits, Grown}
-use Rattle.engine_model.specs.SmallSteps.{CanRaise, ordered, ordered_by_barrier, placed, put, touched}
+use Rattle.engine_model.specs.SmallSteps.{CanRaise, ordered, ordered_after, ordered_by_barrier, placed, put, touched}
 use Rattle.engine_model.proofs.Grown.{grown_edits}
 use Rattle.engine_model.proofs.Graphs.{acyclic_more}
 use Rattle.engine_model.proofs.Whole.{edits_keep_all, nothing_told, pool_untold}
@@ -203,6 +203,21 @@ module _ (lay : Layout) (top : ℕ) (sound : Bool) (apart : Apart lay) (m : Mome
           | inr r ↦ elim (some_barred w before after a b r) [ inl was ↦ inl (inr was) | inr new ↦ inr (subst (λ y. EdgeKind lay a y) (sym new.1) (subst (λ x. EdgeKind lay x after) (sym new.0) kind)) ]
         ])
         k.counts.marks_and_edges.acyclic refl (λ a. refl) (λ a. refl)
+
+    abbrev in_world : World → Type 0
+    in_world v = EngineInvariant lay top sound (record m { world = v })
+
+    barred_or_same : in_world (cond (w.hung before) (ordered_by_barrier before after w) w)
+    barred_or_same = elim (cases_Bool (w.hung before)) [
+      | inl is ↦ subst in_world (sym (ap (λ b. cond b (ordered_by_barrier before after w) w) is)) (barred_keeps is)
+      | inr none ↦ subst in_world (sym (ap (λ b. cond b (ordered_by_barrier before after w) w) none)) k
+    ]
+
+    pub either_keeps : (w.dirty before ≡ true → Closes w.live before after → ⊥) → EngineInvariant lay top sound (record m { world = ordered_after before after m.world })
+    either_keeps no_cycle = elim (cases_Bool (w.dirty before)) [
+      | inl is ↦ subst in_world (sym (ap (λ b. cond b (ordered before after w) (cond (w.hung before) (ordered_by_barrier before after w) w)) is)) (ordered_keeps is (no_cycle is))
+      | inr off ↦ subst in_world (sym (ap (λ b. cond b (ordered before after w) (cond (w.hung before) (ordered_by_barrier before after w) w)) off)) barred_or_same
+    ]
 
   -- a fresh data page gets its content
   module _ (p : ℕ) (content : List ℕ) (is : IsData lay p) (free : Free lay w p) where

@@ -25,6 +25,10 @@ with_written lay page m = record m {
 abbrev pub with_taken : Layout → ℕ → Moment → Moment
 with_taken lay page m = record m { world = page_taken page m.world; calls = Tried page ∷ m.calls; pool = after_tried lay page m.pool }
 
+-- a write was tried and refused, and birth_marks and the pool were told of the try
+abbrev pub with_refused : Layout → ℕ → Moment → Moment
+with_refused lay page m = record m { calls = Tried page ∷ m.calls; pool = after_tried lay page m.pool }
+
 -- the moment with another state
 abbrev pub in_state : World → Moment → Moment
 in_state w m = record m { world = w }

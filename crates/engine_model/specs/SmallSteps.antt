@@ -26,6 +26,10 @@ ordered before after w = record w { live = λ a b. w.live a b || (eqb a before &
 abbrev pub ordered_by_barrier : ℕ → ℕ → World → World
 ordered_by_barrier before after w = record w { barred = λ a b. w.barred a b || (eqb a before && eqb b after) }
 
+-- one page before the other, as their marks ask: a Live edge where it is dirty, a Barrier edge where it is hung alone, and else no edge
+abbrev pub ordered_after : ℕ → ℕ → World → World
+ordered_after before after w = cond (w.dirty before) (ordered before after w) (cond (w.hung before) (ordered_by_barrier before after w) w)
+
 -- the queue with the release that l owes to o, if o is a page: at stage 0, or at stage 3 where the name is unborn
 abbrev pub pushed : Known → ℕ → ℕ → List Release → List Release
 pushed known l o queue = cond (eqb o 0) queue (queue ++ (record { block = l; page = o; stage = cond (known.unborn_name l o) 3 0 }) ∷ [])

@@ -1,6 +1,6 @@
 //! From what code holds, lists and bytes, to the functions of the plain state.
 
-ghost use Rattle.std.specs.Prelude.{◌≡◌, ◌≢◌, ◌⊎◌, ◌↔◌, ◌≤◌, ◌*◌, ◌+◌, ◌-◌, ◌/◌, ◌%◌, ◌&&◌, ◌||◌, not, eqb, [], ℕ, List, Bool, Option, Some, false, true, get_or, length};
+ghost use Rattle.std.specs.Prelude.{◌≡◌, ◌≢◌, ◌⊎◌, ◌↔◌, ◌++◌, ◌∷◌, cond, ◌≤◌, ◌*◌, ◌+◌, ◌-◌, ◌/◌, ◌%◌, ◌&&◌, ◌||◌, not, eqb, [], ℕ, List, Bool, Option, Some, false, true, get_or, length};
 ghost use Rattle.engine_model.specs.Bytes.{layout_of, print_entry, with_bytes, with_number};
 ghost use Rattle.engine_model.specs.Counts.{Covered};
 ghost use Rattle.engine_model.specs.CoveredCount.{is_covered};
@@ -18,6 +18,10 @@ pub fn disk_lists()
     ensures write_here { (d : Disk) (page : ℕ) (c : List ℕ) → newest_on (after_write d page c) page ≡ c }
     ensures write_other { (d : Disk) (page other : ℕ) (c : List ℕ) → other ≢ page
         → newest_on (after_write d page c) other ≡ newest_on d other }
+    ensures newest { (d : Disk) (page a : ℕ) (c : List ℕ)
+        → newest_on (after_write d page c) a ≡ cond (eqb a page) c (newest_on d a) }
+    ensures older { (d : Disk) (page a : ℕ) (c : List ℕ)
+        → older_on (after_write d page c) a ≡ older_on d a ++ cond (eqb a page) (c ∷ []) [] }
     ensures write_older { (d : Disk) (page other : ℕ) (c x : List ℕ) → Has x (older_on (after_write d page c) other)
         → Has x (older_on d other) ⊎ ((other ≡ page) × (x ≡ c)) }
     ensures flush_newest { (d : Disk) (page : ℕ) → InRange (length d.fixed) d.since

@@ -10,7 +10,7 @@ ghost use Rattle.engine_model.specs.Known.{Free};
 ghost use Rattle.engine_model.specs.Paths.{Closes};
 ghost use Rattle.engine_model.specs.Pool.{Told};
 ghost use Rattle.engine_model.specs.SmallRuns.{SmallStep, in_state, with_count, with_name, with_print, with_release_out};
-ghost use Rattle.engine_model.specs.SmallSteps.{CanClear, CanLower, CanName, CanPrint, CanRaise, CanRecount, GainsOrHolds, given_up, held_by, ordered, ordered_by_barrier, placed, touched};
+ghost use Rattle.engine_model.specs.SmallSteps.{CanClear, CanLower, CanName, CanPrint, CanRaise, CanRecount, GainsOrHolds, given_up, held_by, ordered, ordered_after, ordered_by_barrier, placed, touched};
 ghost use Rattle.engine_model.specs.World.{Agree, Layout, Release, World};
 
 /// A table page becomes dirty.
@@ -27,7 +27,8 @@ pub fn place()
         → EngineInvariant lay top sound (in_state (placed (lay.data_page p) content m.world) m) }
 {}
 
-/// An edge is added: a Live edge between two dirty pages that closes no cycle, or a Barrier edge from a hung page.
+/// An edge is added: a Live edge between two dirty pages that closes no cycle, or a Barrier edge from a hung page; or
+/// whichever of them the marks of the page before ask for, if any.
 pub fn order()
     ensures live { (lay : Layout) (top : ℕ) (sound : Bool) → Apart lay → (m : Moment)
         → EngineInvariant lay top sound m → (before after : ℕ) → EdgeKind lay before after
@@ -37,6 +38,10 @@ pub fn order()
         → EngineInvariant lay top sound m → (before after : ℕ) → EdgeKind lay before after
         → m.world.dirty after ≡ true → m.world.hung before ≡ true
         → EngineInvariant lay top sound (in_state (ordered_by_barrier before after m.world) m) }
+    ensures either { (lay : Layout) (top : ℕ) (sound : Bool) → Apart lay → (m : Moment)
+        → EngineInvariant lay top sound m → (before after : ℕ) → EdgeKind lay before after
+        → m.world.dirty after ≡ true → (m.world.dirty before ≡ true → Closes m.world.live before after → ⊥)
+        → EngineInvariant lay top sound (in_state (ordered_after before after m.world) m) }
 {}
 
 /// A count is raised by one.

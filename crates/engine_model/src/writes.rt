@@ -9,7 +9,7 @@ ghost use Rattle.engine_model.specs.DeviceSteps.{IsReady, KeepsMarks, MovesMarks
 ghost use Rattle.engine_model.specs.Entries.{Apart};
 ghost use Rattle.engine_model.specs.Invariant.{EngineInvariant, Moment};
 ghost use Rattle.engine_model.specs.Pool.{PoolExact, PoolKnows, PossibleStays, Told, after_tried, after_written};
-ghost use Rattle.engine_model.specs.SmallRuns.{with_taken, with_written};
+ghost use Rattle.engine_model.specs.SmallRuns.{with_refused, with_taken, with_written};
 ghost use Rattle.engine_model.specs.World.{Agree, Layout, World};
 
 /// A write that ended done: the page is hung and not dirty, the Live edges from it become Barrier edges, and the
@@ -72,4 +72,6 @@ pub fn write_refused()
         → EngineInvariant lay top sound m → (page : ℕ) → Same m.world n.world → Agree n.array m.array
         → n.calls ≡ Tried page ∷ m.calls → Agree n.pool (after_tried lay page m.pool)
         → EngineInvariant lay top sound n }
+    ensures kept { (lay : Layout) (top : ℕ) (sound : Bool) → Apart lay → (m : Moment)
+        → EngineInvariant lay top sound m → (page : ℕ) → EngineInvariant lay top sound (with_refused lay page m) }
 {}
