@@ -4,7 +4,7 @@ use Rattle.std.specs.List.{range_with_len}
 use Rattle.std.proofs.lemmas.Bool.{cases_eq, cases_Bool}
 use Rattle.std.proofs.lemmas.List.{get_or_read}
 use Rattle.std.proofs.lemmas.List.FromFn.{length-map-range_with_len, get_or-map-range_with_len}
-use Rattle.engine_model.specs.Pool.{Told, after_fixed, after_tried, after_written, after_zeroed}
+use Rattle.engine_model.specs.Pool.{Told, after_fixed, after_take, after_tried, after_written, after_zeroed}
 use Rattle.engine_model.specs.World.{Layout}
 use Rattle.page_layout.specs.Shape.{ShapeView, count_page, count_pages, first_count_page}
 use Rattle.page_alloc.specs.Marks.{told_in, told_after, no_told}
@@ -64,6 +64,16 @@ zeroed_again view p zero q =
     elim (cases_eq p q) [
       | inl same ↦
           let is : (told_of view q).zero ≡ true = ap (λ (n : ℕ). (told_of view n).zero) (sym same) ∙ zero in
+          rw (eq-eqb p q same) (ap (λ b. record { zero = b; tried = (told_of view q).tried; newest = (told_of view q).newest }) (sym is))
+      | inr other ↦ rw (ne_eqb p q other) refl
+    ]
+
+-- a page that is taken already
+pub taken_again : (view : PoolView) (p : ℕ) → (told_of view p).zero ≡ false → (q : ℕ) → after_take p (told_of view) q ≡ told_of view q
+taken_again view p taken q =
+    elim (cases_eq p q) [
+      | inl same ↦
+          let is : (told_of view q).zero ≡ false = ap (λ (n : ℕ). (told_of view n).zero) (sym same) ∙ taken in
           rw (eq-eqb p q same) (ap (λ b. record { zero = b; tried = (told_of view q).tried; newest = (told_of view q).newest }) (sym is))
       | inr other ↦ rw (ne_eqb p q other) refl
     ]

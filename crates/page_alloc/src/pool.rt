@@ -146,7 +146,8 @@ impl Pool {
     pub fn take(&mut self, p: u32)
         requires first { 1 ≤ p }
         requires last { p ≤ self.old.shape.pages }
-        ensures { IsTold self.old.shape (after_take p (told_of self.old)) self.new }
+        ensures told { IsTold self.old.shape (after_take p (told_of self.old)) self.new }
+        ensures again { (told_of self.old p).zero ≡ false → self.new ≡ self.old }
     {
         let (group, bit) = place_of(p);
         let marks = self.groups[group].taken(bit);
