@@ -79,11 +79,13 @@ some_ready g page graph none_hung h =
 waits_from : (g : GraphLists) (b : ℕ) → waits_in g b ≡ true → (a : ℕ) × ((live_in g a b ≡ true) ⊎ (barred_in g a b ≡ true))
 waits_from g b is =
     let w = any_where (λ (e : Edge). eqb e.after b) g.edges no_edge is in
-    let e : Edge = get_or g.edges w.0 no_edge in
-    (e.before, elim (cases_Bool (is_live e.kind)) [
-      | inl live ↦ inl (any_at (λ (f : Edge). eqb f.before e.before && (eqb f.after b && is_live f.kind)) g.edges w.0 no_edge w.1 (and_from _ _ (eq-eqb _ _ refl) (and_from _ _ w.2 live)))
-      | inr barrier ↦ inr (any_at (λ (f : Edge). eqb f.before e.before && (eqb f.after b && not (is_live f.kind))) g.edges w.0 no_edge w.1 (and_from _ _ (eq-eqb _ _ refl) (and_from _ _ w.2 (not_from_false _ barrier))))
-    ])
+    let e : Edge = get_or g.edges w.0 no_edge in (
+      e.before,
+      elim (cases_Bool (is_live e.kind)) [
+        | inl live ↦ inl (any_at (λ (f : Edge). eqb f.before e.before && (eqb f.after b && is_live f.kind)) g.edges w.0 no_edge w.1 (and_from _ _ (eq-eqb _ _ refl) (and_from _ _ w.2 live)))
+        | inr barrier ↦ inr (any_at (λ (f : Edge). eqb f.before e.before && (eqb f.after b && not (is_live f.kind))) g.edges w.0 no_edge w.1 (and_from _ _ (eq-eqb _ _ refl) (and_from _ _ w.2 (not_from_false _ barrier))))
+      ],
+    )
 
 waits_to : (g : GraphLists) (a b : ℕ) → (live_in g a b ≡ true) ⊎ (barred_in g a b ≡ true) → waits_in g b ≡ true
 waits_to g a b (inl live) =

@@ -17,7 +17,9 @@ mod search;
 mod waiting;
 
 pub use graph::{Graph, NODE_LIMIT};
-pub use laws::{barriers_are_fewest, edges_are_waited_for, edges_into_one_page, some_page_is_ready};
+pub use laws::{
+    barriers_are_fewest, edges_are_waited_for, edges_into_one_page, some_page_is_ready,
+};
 pub use page_device::NoMemory;
 
 /// What an edge waits for.
