@@ -1,8 +1,8 @@
 -- What is recorded follows the list of calls.
 use Rattle.std.proofs.Common.{◌≡◌, ◌⊎◌, inl, inr, ℕ, ◌&&◌, ◌||◌, Bool, true, false, not, cond, eqb, List, [], ◌∷◌, refl, sym, ◌∙◌, ap, subst, arith, eq-eqb}
 use Rattle.std.proofs.lemmas.Bool.{and_parts, cases_Bool}
-use Rattle.birth_marks.specs.declared.Slot.{Slot}
-use Rattle.birth_marks.specs.Calls.{Call, Change, Fixed, Tried, Written, is_changed, is_met, is_unborn, same_slot, since, value_left, wrote_last}
+use Rattle.order_model.specs.declared.Slot.{Slot}
+use Rattle.order_model.specs.Calls.{Call, Change, Fixed, Tried, Written, is_changed, is_met, is_unborn, same_slot, since, value_left, wrote_last}
 use Rattle.birth_marks.proofs.TableLemmas.{slot_is}
 use Rattle.birth_marks.specs.Births.{BirthsView, Changed, FixedAll, Remembers, Same, TriedAt, WrittenAt, met_in, place_in, recorded_in, value_in, written_in}
 

@@ -3,12 +3,12 @@ use Rattle.std.proofs.Common.{◌≡◌, ◌≤◌, ℕ, Bool, true, false, cond
 use Rattle.std.proofs.lemmas.Bool.Decides.{nat_tests}
 use Rattle.std.proofs.lemmas.Bool.{cases_Bool}
 use Rattle.std.specs.Map.{lookup}
-use Rattle.birth_marks.specs.declared.Slot.{Slot}
+use Rattle.order_model.specs.declared.Slot.{Slot}
 use Rattle.birth_marks.specs.declared.births.Met.{Met}
 use Rattle.birth_marks.specs.declared.births.Pair.{Pair}
 use Rattle.birth_marks.specs.declared.births.Record.{Record}
 use Rattle.birth_marks.specs.contracts.births.PairPartialEq.TheImpl.{eq-value as same_pair}
-use Rattle.birth_marks.specs.Calls.{same_slot}
+use Rattle.order_model.specs.Calls.{same_slot}
 use Rattle.birth_marks.specs.declared.pages.Mark.{Mark}
 use Rattle.birth_marks.specs.Pages.{PagesView, is_known, mark_of, settled}
 use Rattle.birth_marks.specs.Births.{BirthsView, FixedAll, is_live, left_in, page_in}

@@ -4,15 +4,15 @@ use Rattle.std.specs.Prelude.{is_some, nat_le, nat_lt}
 use Rattle.std.specs.Map.{lookup}
 use Rattle.std.proofs.lemmas.Bool.{cases_Bool}
 use Rattle.std.proofs.lemmas.Bool.Decides.{nat_tests}
-use Rattle.birth_marks.specs.declared.Slot.{Slot}
-use Rattle.birth_marks.specs.declared.Slot.TheVariants.{Name, Print}
+use Rattle.order_model.specs.declared.Slot.{Slot}
+use Rattle.order_model.specs.declared.Slot.TheVariants.{Name, Print}
 use Rattle.birth_marks.specs.contracts.births.PairPartialEq.TheImpl.{eq-value as same_pair}
 use Rattle.birth_marks.specs.declared.births.Pair.{Pair}
 use Rattle.birth_marks.specs.declared.births.Record.{Record}
 use Rattle.birth_marks.specs.declared.births.Met.{Met}
 use Rattle.birth_marks.specs.declared.pages.Mark.{Mark}
 use Rattle.birth_marks.specs.Pages.{PagesView, is_known, mark_of, settled}
-use Rattle.birth_marks.specs.Calls.{same_slot}
+use Rattle.order_model.specs.Calls.{same_slot}
 use Rattle.birth_marks.specs.Births.{BirthsView, Changed, FixedAll, PlacedAt, Same, TriedAt, WrittenAt, first_of, is_after, is_live, is_tried, left_in, meets, met_in, moment_in, page_in, place_in, record_in, recorded_in, value_in, written_in}
 use Rattle.birth_marks.specs.Kept.{AreBehind}
 

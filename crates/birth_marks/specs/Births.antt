@@ -1,13 +1,13 @@
 -- What is recorded, what each call does to that, and how it follows from the list of calls.
 use Rattle.std.specs.Prelude.{◌≡◌, ◌&&◌, ◌||◌, ℕ, List, Bool, true, false, not, cond, eqb, nat_le, nat_lt, Option, Some, None}
 use Rattle.std.specs.Map.{lookup}
-use Rattle.birth_marks.specs.declared.Slot.{Slot}
+use Rattle.order_model.specs.declared.Slot.{Slot}
 use Rattle.birth_marks.specs.declared.births.Pair.{Pair}
 use Rattle.birth_marks.specs.declared.births.Record.{Record}
 use Rattle.birth_marks.specs.declared.births.Met.{Met}
 use Rattle.birth_marks.specs.contracts.births.PairPartialEq.TheImpl.{eq-value as same_pair}
 use Rattle.birth_marks.specs.Pages.{PagesView, mark_of}
-use Rattle.birth_marks.specs.Calls.{Call, is_changed, is_met, same_slot, since, value_left, wrote_last}
+use Rattle.order_model.specs.Calls.{Call, is_changed, is_met, same_slot, since, value_left, wrote_last}
 
 -- The last change of each slot, when a slot met a value, the marks of the pages, and for how many changes there is room. A later moment has a greater number.
 pub record BirthsView : Type 0 where

@@ -1,12 +1,12 @@
 -- What the tables keep.
 use Rattle.std.specs.Prelude.{◌≡◌, ◌≤◌, ◌<◌, ◌+◌, ◌^◌, ℕ, List, true, Some, is_some}
 use Rattle.std.specs.Map.{lookup}
-use Rattle.birth_marks.specs.declared.Slot.{Slot}
+use Rattle.order_model.specs.declared.Slot.{Slot}
 use Rattle.birth_marks.specs.declared.births.Record.{Record}
 use Rattle.birth_marks.specs.declared.births.Met.{Met}
 use Rattle.birth_marks.specs.declared.births.Pair.{Pair}
 use Rattle.birth_marks.specs.contracts.births.PairPartialEq.TheImpl.{eq-value as same_pair}
-use Rattle.birth_marks.specs.Calls.{same_slot}
+use Rattle.order_model.specs.Calls.{same_slot}
 use Rattle.birth_marks.specs.Pages.{PagesView, is_known, mark_of, settled}
 use Rattle.birth_marks.specs.Births.{BirthsView, is_live, moment_in, record_in}
 

@@ -1,4 +1,3 @@
-pub mod Calls
 pub mod Pages
 pub mod Births
 pub mod Kept

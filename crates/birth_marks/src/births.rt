@@ -3,7 +3,7 @@ ghost use Rattle.std.specs.Prelude.{◌≡◌, ◌≢◌, ℕ, ◌<◌, ◌≤�
 ghost use Rattle.std.specs.HashMap.{spare as room_of};
 ghost use Rattle.std.specs.Map.{lookup};
 ghost use Rattle.birth_marks.specs.contracts.births.PairPartialEq.TheImpl.{eq-value as same_pair};
-ghost use Rattle.birth_marks.specs.Calls.{same_slot};
+ghost use Rattle.order_model.specs.Calls.{same_slot};
 ghost use Rattle.birth_marks.specs.Pages.{is_known, mark_of, settled};
 ghost use Rattle.birth_marks.specs.Kept.{Swept};
 ghost use Rattle.birth_marks.specs.Births.{Changed, FixedAll, PlacedAt, Same, TriedAt, WrittenAt, first_of, is_after, is_live, is_tried, is_unborn_in, place_in, record_in, recorded_in, value_in};

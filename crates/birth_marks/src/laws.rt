@@ -1,7 +1,7 @@
 // What is recorded follows the list of calls.
 ghost use Rattle.std.specs.Prelude.{◌≡◌, ◌∷◌, [], ◌&&◌, not, false, ℕ, List};
-ghost use Rattle.birth_marks.specs.declared.Slot.{Slot};
-ghost use Rattle.birth_marks.specs.Calls.{Call, Change, Fixed, Tried, Written, is_unborn};
+ghost use Rattle.order_model.specs.declared.Slot.{Slot};
+ghost use Rattle.order_model.specs.Calls.{Call, Change, Fixed, Tried, Written, is_unborn};
 ghost use Rattle.birth_marks.specs.Births.{BirthsView, Changed, FixedAll, Remembers, Same, TriedAt, WrittenAt, is_unborn_in, recorded_in};
 
 /// Whatever the calls, what is recorded is what they say, where each slot stands on a page of its own: so is what `unborn` answers.

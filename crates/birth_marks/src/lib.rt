@@ -2,7 +2,7 @@
 //!
 //! A slot is the map entry of a block, or the print of a data page. A value of it is unborn where it was not its value when its
 //! page was last settled, nor at any try to write the page since: then no content that a crash may leave has it.
-//! `specs/Calls.antt` says this over the list of calls, `specs/Births.antt` what is kept instead of the list.
+//! `order_model` says this over the list of calls (`specs/Calls.antt` there), `specs/Births.antt` what is kept instead of the list.
 #![tactic(auto)]
 
 mod births;
@@ -11,16 +11,8 @@ mod pages;
 
 pub use births::Births;
 pub use laws::calls_are_remembered;
+pub use order_model::Slot;
 pub use page_device::NoMemory;
-
-/// A block, whose value is its map entry, or a data page, whose value is 1 with a print and 0 without.
-#[derive(Clone, Copy, Debug, PartialEq, Eq, Hash, Drop)]
-pub enum Slot {
-    /// The map entry of a block.
-    Name(u32),
-    /// The print of a data page.
-    Print(u32),
-}
 
 #[cfg(test)]
 mod tests;

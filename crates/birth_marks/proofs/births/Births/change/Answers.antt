@@ -1,9 +1,9 @@
 use Rattle.std.proofs.Common.{◌≡◌, ◌&&◌, ◌+◌, ◌∙◌, true, Some, None, ap, arith, cond, not, subst, sym}
 use Rattle.std.specs.Map.{lookup}
-use Rattle.birth_marks.specs.declared.Slot.{Slot}
+use Rattle.order_model.specs.declared.Slot.{Slot}
 use Rattle.birth_marks.specs.declared.births.Pair.{Pair}
 use Rattle.birth_marks.specs.contracts.births.PairPartialEq.TheImpl.{eq-value as same_pair}
-use Rattle.birth_marks.specs.Calls.{same_slot}
+use Rattle.order_model.specs.Calls.{same_slot}
 use Rattle.birth_marks.specs.Births.{BirthsView, first_of, is_after, is_tried, moment_in, place_in, record_in, recorded_in, value_in}
 use Rattle.birth_marks.specs.declared.pages.Mark.{Mark}
 use Rattle.birth_marks.specs.Pages.{mark_of}

@@ -1,7 +1,7 @@
 -- The list of calls, the latest first, and what follows from it.
 use Rattle.std.specs.Prelude.{◌&&◌, ◌||◌, ℕ, List, [], ◌∷◌, Bool, false, not, cond, eqb}
-use Rattle.birth_marks.specs.declared.Slot.{Slot}
-use Rattle.birth_marks.specs.contracts.SlotPartialEq.TheImpl.{eq-value}
+use Rattle.order_model.specs.declared.Slot.{Slot}
+use Rattle.order_model.specs.contracts.SlotPartialEq.TheImpl.{eq-value}
 
 -- one block, or one data page
 abbrev pub same_slot : Slot → Slot → Bool
