@@ -1,9 +1,9 @@
 -- An applied release brings its edges.
 use Rattle.std.proofs.Common.{◌≡◌, ◌⊎◌, inl, inr, ◌+◌, ◌<◌, ◌≤◌, ℕ, true, cond, eqb, arith, sym, ap, ◌∙◌, subst, List, Some, eq-eqb, ne_eqb, eq-zero-or-pos}
 use Rattle.std.proofs.lemmas.Bool.{cases_eq, false_from_ne_true}
-use Rattle.engine_model.specs.World.{Layout, World, Release, Queued, queued}
+use Rattle.order_model.specs.World.{Layout, World, Release, Queued, queued, IsData}
 use Rattle.engine_model.specs.Counts.{CountsInvariant}
-use Rattle.engine_model.specs.Entries.{IsData, MayPrint, cached_count, cached_print, cached_names}
+use Rattle.engine_model.specs.Entries.{MayPrint, cached_count, cached_print, cached_names}
 use Rattle.engine_model.specs.Edits.{Edits}
 use Rattle.engine_model.specs.Known.{Known, Tells}
 use Rattle.engine_model.specs.Releases.{Applied}

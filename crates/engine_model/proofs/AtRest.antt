@@ -1,8 +1,10 @@
 -- A fit image at rest meets what the engine keeps; and after a flush each block has its last content alone.
 use Rattle.std.proofs.Common.{◌≡◌, inl, inr, ◌<◌, ◌≤◌, ℕ, Bool, true, false, arith, refl, sym, ap, ◌∙◌, subst, List, [], ◌∷◌, Some, true≢false, eqb, eq-eqb}
-use Rattle.engine_model.specs.World.{Layout, World, Possible, queued, AtMost, Has, count_below}
+use Rattle.order_model.specs.World.{Layout, World, Possible, queued, IsData}
+use Rattle.order_model.specs.Counting.{AtMost, count_below}
+use Rattle.order_model.specs.Contents.{IsAmong}
 use Rattle.engine_model.specs.Counts.{CountsInvariant, Near, NearPrinted}
-use Rattle.engine_model.specs.Entries.{MayName, MayPrint, IsTable, IsData, cached_name, cached_count, cached_print, cached_names, newest_name, newest_count, newest_print}
+use Rattle.engine_model.specs.Entries.{MayName, MayPrint, IsTable, cached_name, cached_count, cached_print, cached_names, newest_name, newest_count, newest_print}
 use Rattle.engine_model.specs.Contents.{ContentsInvariant, Last}
 use Rattle.engine_model.specs.DeviceSteps.{AtRest}
 use Rattle.engine_model.specs.Images.{CountsFit, CountsBelow, ContentsFit}
@@ -60,7 +62,7 @@ module _ (lay : Layout) (top : ℕ) (w : World) (rest : AtRest w) where
       edge_kinds = λ a b h. absurd (elim h [ inl l ↦ no_edge a b l | inr r ↦ no_barred a b r ]);
       count_balance = λ p d. record {
         enough =
-            let names : cached_names lay w p ≡ count_below lay.blocks (λ l. eqb (newest_name lay w l) p) = count_ext lay.blocks _ _ (λ l lt. ap (λ n. eqb n p) (name l)) in
+            let names : cached_names lay w p ≡ count_below (λ l. eqb (newest_name lay w l) p) lay.blocks = count_ext lay.blocks _ _ (λ l lt. ap (λ n. eqb n p) (name l)) in
             let none : queued w.queue p ≡ 0 = ap (λ rs. queued rs p) rest.queue in
             let fits = fit.names p d in
             let same = count p in
@@ -68,7 +70,7 @@ module _ (lay : Layout) (top : ℕ) (w : World) (rest : AtRest w) where
         in_range = rw (count p) (below p d);
       };
       counts_cover_names = λ p d. record {
-        each = λ c q S h. subst (λ x. count_below lay.blocks S ≤ lay.count_in x p) (sym (rest.one _ c q)) (covers p d S (λ l lt s. elim (h l lt s) [ inl n ↦ inl n | inr n ↦ inr (n.0, n.1.0) ]));
+        each = λ c q S h. subst (λ x. count_below S lay.blocks ≤ lay.count_in x p) (sym (rest.one _ c q)) (covers p d S (λ l lt s. elim (h l lt s) [ inl n ↦ inl n | inr n ↦ inr (n.0, n.1.0) ]));
         newest = covers p d;
       };
       counts_cover_prints = λ p d. record {
@@ -91,7 +93,7 @@ module _ (lay : Layout) (top : ℕ) (w : World) (rest : AtRest w) where
 
   -- each block's list is the content that the image reads there
   pub start_contents : (sound : Bool) (array : ℕ → List (List ℕ)) → ContentsFit lay sound w.newest array
-      → ((l : ℕ) → l < lay.blocks → (c : List ℕ) → Has c (array l) → Last (array l) c)
+      → ((l : ℕ) → l < lay.blocks → (c : List ℕ) → IsAmong c (array l) → Last (array l) c)
       → ContentsInvariant lay sound array w
   start_contents sound array fit alone = record {
     fresh_data_first = λ p d. record {
@@ -133,13 +135,14 @@ module _ (lay : Layout) (sound : Bool) (array after : ℕ → List (List ℕ)) (
   kept_name p l lt n = ap (λ c. lay.name_in c l) (sym (settled _ n.content (inl (l, lt, refl)) n.possible)) ∙ n.names
 
   pub flush_contents : ContentsInvariant lay sound after w
+  unfolding IsAmong
   flush_contents = record {
     fresh_data_first = old.fresh_data_first;
     named_data_fixed = old.named_data_fixed;
     named_data_stands = old.named_data_stands;
     reads = λ l lt. let was = old.reads l lt in record {
-      unmapped = λ n. subst (λ xs. Has lay.zero_block xs) (sym (alone l lt _ (was.cached_unmapped (kept_name 0 l lt n)))) (inl refl);
-      mapped = λ p d n. subst (λ xs. Has (w.newest (lay.data_page p)) xs) (sym (alone l lt _ (was.cached_mapped p d (kept_name p l lt n)))) (inl ((old.fresh_data_first p d).clean (clean _)));
+      unmapped = λ n. subst (λ xs. IsAmong lay.zero_block xs) (sym (alone l lt _ (was.cached_unmapped (kept_name 0 l lt n)))) (inl refl);
+      mapped = λ p d n. subst (λ xs. IsAmong (w.newest (lay.data_page p)) xs) (sym (alone l lt _ (was.cached_mapped p d (kept_name p l lt n)))) (inl ((old.fresh_data_first p d).clean (clean _)));
       cached_unmapped = λ n. subst (λ xs. Last xs lay.zero_block) (sym (alone l lt _ (was.cached_unmapped n))) refl;
       cached_mapped = λ p d n. subst (λ xs. Last xs (w.cached (lay.data_page p))) (sym (alone l lt _ (was.cached_mapped p d n))) refl;
     };

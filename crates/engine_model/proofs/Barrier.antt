@@ -1,9 +1,9 @@
 -- A barrier keeps what the engine keeps.
 use Rattle.std.proofs.Common.{◌≡◌, ◌⊎◌, inl, inr, ◌<◌, ℕ, true, cond, eqb, arith, refl, sym, ◌∙◌, List, [], ◌∷◌, map, Some, true≢false, eq-eqb, ne_eqb}
 use Rattle.std.proofs.lemmas.Bool.{cases_eq}
-use Rattle.engine_model.specs.World.{Layout, World, Release, Queued, queued}
+use Rattle.order_model.specs.World.{Layout, World, Release, Queued, queued, IsData}
 use Rattle.engine_model.specs.Counts.{CountsInvariant, MarksAndEdges, EdgeKinds, Balanced, CoversNames, CoversPrints, OwesRelease, LostPrint, Covered, Near, Printed, NearPrinted}
-use Rattle.engine_model.specs.Entries.{MayName, MayPrint, IsData, cached_name, cached_count, cached_print, newest_name, newest_count, newest_print}
+use Rattle.engine_model.specs.Entries.{MayName, MayPrint, cached_name, cached_count, cached_print, newest_name, newest_count, newest_print}
 use Rattle.engine_model.proofs.Views.{name_same, count_same, print_same, names_same, newest_name_same, newest_count_same, newest_print_same}
 use Rattle.engine_model.specs.DeviceSteps.{Barrier, fixed_release}
 use Rattle.engine_model.proofs.Graphs.{acyclic_fewer}

@@ -1,7 +1,8 @@
 -- A barrier keeps the contents.
 use Rattle.std.proofs.Common.{◌≡◌, inl, ℕ, Bool, sym, ap, ◌∙◌, subst, List, true≢false}
-use Rattle.engine_model.specs.World.{Layout, World, Has}
-use Rattle.engine_model.specs.Entries.{MayName, MayPrint, IsData, cached_name, cached_print}
+use Rattle.order_model.specs.World.{Layout, World, IsData}
+use Rattle.order_model.specs.Contents.{IsAmong}
+use Rattle.engine_model.specs.Entries.{MayName, MayPrint, cached_name, cached_print}
 use Rattle.engine_model.specs.Contents.{ContentsInvariant, DataOrdered, NamedFixed, NamedStands, Last}
 use Rattle.engine_model.proofs.Named.{Kept, named_kept, named_parts, printed_kept}
 use Rattle.engine_model.proofs.Views.{name_same, print_same}
@@ -43,7 +44,7 @@ module _ (lay : Layout) (sound : Bool) (array : ℕ → List (List ℕ)) (w v : 
     named_data_stands = λ p d. (named p d).1;
     reads = λ l lt. record {
       unmapped = λ n. (old.reads l lt).unmapped (may_name 0 l n);
-      mapped = λ p d n. subst (λ c. Has c (array l)) (sym (b.newest (lay.data_page p))) ((old.reads l lt).mapped p d (may_name p l n));
+      mapped = λ p d n. subst (λ c. IsAmong c (array l)) (sym (b.newest (lay.data_page p))) ((old.reads l lt).mapped p d (may_name p l n));
       cached_unmapped = λ n. (old.reads l lt).cached_unmapped (sym (name l) ∙ n);
       cached_mapped = λ p d n. subst (λ c. Last (array l) c) (sym (b.cached (lay.data_page p))) ((old.reads l lt).cached_mapped p d (sym (name l) ∙ n));
     };

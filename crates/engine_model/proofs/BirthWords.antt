@@ -1,7 +1,9 @@
 -- The test of birth_marks says what its words say.
 use Rattle.std.proofs.Common.{◌≡◌, ◌≢◌, ◌⊎◌, inl, inr, ℕ, true, false, ◌||◌, cond, refl, sym, ap, ◌∙◌, List, [], ◌∷◌, eq-eqb, eqb-true, true≢false}
 use Rattle.std.proofs.lemmas.Bool.{cases_Bool, or_cases, or_left, or_right, or_parts, and_parts, and_from, not-true, not_from_false, false_from_ne_true}
-use Rattle.engine_model.specs.Births.{Call, Change, Fixed, GoesOn, Slot, Tried, TriedWith, Written, is_changed, is_met, is_unborn, same_slot, since, value_after, value_left}
+use Rattle.order_model.specs.Calls.{Call, Change, Fixed, Tried, Written, is_changed, is_met, is_unborn, same_slot, since, value_left}
+use Rattle.order_model.specs.declared.Slot.{Slot}
+use Rattle.engine_model.specs.Births.{GoesOn, TriedWith, value_after}
 
 module _ (slot : Slot) (x page v : ℕ) where
   unchanged_value : (cs : List Call) → is_changed slot cs ≡ false → value_after slot x cs ≡ x

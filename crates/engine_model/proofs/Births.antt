@@ -1,10 +1,13 @@
 -- What birth_marks was told accounts for the possible values of its slots.
 use Rattle.std.proofs.Common.{◌≡◌, ◌≢◌, ◌⊎◌, inl, inr, ℕ, true, false, ◌||◌, cond, refl, sym, ap, ◌∙◌, subst, List, [], ◌∷◌, eq-eqb, eqb-true, ne_eqb, true≢false}
 use Rattle.std.proofs.lemmas.Bool.{cases_eq, cases_Bool, or_cases, or_left, or_right, or_parts, and_parts, and_from, not-true, not_from_false}
-use Rattle.engine_model.specs.World.{Layout, World, Possible}
+use Rattle.order_model.specs.World.{Layout, World, Possible}
 use Rattle.engine_model.specs.DeviceSteps.{Barrier, KeepsMarks, MovesMarks, Taken, AtRest}
 use Rattle.engine_model.specs.Edits.{CacheOnly}
-use Rattle.engine_model.specs.Births.{AllDirty, Slot, Name, Print, Call, Change, Tried, Written, Fixed, Edit, BirthKnown, Leads, told, same_slot, wrote_last, since, is_changed, value_left, is_met, is_unborn, place_of, value_in, cached_value}
+use Rattle.order_model.specs.declared.Slot.{Slot}
+use Rattle.order_model.specs.declared.Slot.TheVariants.{Name, Print}
+use Rattle.order_model.specs.Calls.{Call, Change, Tried, Written, Fixed, same_slot, wrote_last, since, is_changed, value_left, is_met, is_unborn}
+use Rattle.engine_model.specs.Births.{AllDirty, Edit, BirthKnown, Leads, told, place_of, value_in, cached_value}
 
 pub same_is_slot : (a b : Slot) → same_slot a b ≡ true → a ≡ b
 same_is_slot (Name a) (Name b) h = ap Name (eqb-true a b h)

@@ -3,8 +3,8 @@ use Rattle.std.proofs.Common.{◌≡◌, ◌⊎◌, inl, inr, ◌+◌, ◌-◌, 
 use Rattle.std.proofs.lemmas.Bool.{cases_order}
 use Rattle.std.proofs.Math.Seq.{drop-append_seam, take-append_seam}
 use Rattle.std.proofs.lemmas.List.{get_or_append_left, get_or-append-add, get_or-take, get_or-drop, ext_get_or}
-use Rattle.engine_model.specs.World.{Layout}
-use Rattle.engine_model.specs.Entries.{Apart, IsData}
+use Rattle.order_model.specs.World.{Layout, IsData}
+use Rattle.engine_model.specs.Entries.{Apart}
 use Rattle.engine_model.specs.SmallSteps.{SetsCount, SetsName, SetsPrint}
 use Rattle.engine_model.specs.Bytes.{layout_of, number_at, print_at, print_entry, with_bytes, with_number}
 

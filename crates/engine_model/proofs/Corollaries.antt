@@ -1,9 +1,9 @@
 -- What follows without a step.
 use Rattle.std.proofs.Common.{◌≡◌, ◌≢◌, ◌⊎◌, inl, inr, ◌<◌, ℕ, Bool, true, false, sym, ◌∙◌, List, true≢false}
-use Rattle.engine_model.specs.World.{Layout, World, Queued}
+use Rattle.order_model.specs.World.{Layout, World, Queued, IsData}
 use Rattle.engine_model.specs.Counts.{CountsInvariant}
-use Rattle.engine_model.specs.Entries.{MayName, MayPrint, IsData}
-use Rattle.engine_model.specs.Paths.{Closes}
+use Rattle.engine_model.specs.Entries.{MayName, MayPrint}
+use Rattle.order_model.specs.Paths.{Closes}
 use Rattle.engine_model.proofs.Graphs.{way_begins}
 use Rattle.engine_model.specs.Contents.{ContentsInvariant}
 

@@ -1,13 +1,13 @@
 -- A scan's change of one data page keeps the counts.
 use Rattle.std.proofs.Common.{◌≡◌, ◌⊎◌, inl, inr, ◌+◌, ◌<◌, ◌≤◌, ℕ, true, eqb, arith, refl, sym, ap, ◌∙◌, subst, List, Some, eq-eqb, eqb-true, true≢false}
 use Rattle.std.proofs.lemmas.Bool.{cases_eq, false_from_ne_true}
-use Rattle.engine_model.specs.World.{Layout, World, Possible, queued}
+use Rattle.order_model.specs.World.{Layout, World, Possible, queued, IsData}
 use Rattle.engine_model.specs.Counts.{CountsInvariant, Covered}
-use Rattle.engine_model.specs.Entries.{IsData, MayPrint, NoEdge, cached_name, cached_count, cached_print, cached_names, Apart}
+use Rattle.engine_model.specs.Entries.{MayPrint, NoEdge, cached_name, cached_count, cached_print, cached_names, Apart}
 use Rattle.engine_model.specs.Corrections.{Corrected}
 use Rattle.engine_model.proofs.NewEdges.{kinds_kept, acyclic_kept}
 use Rattle.engine_model.proofs.Graphs.{way_ends}
-use Rattle.engine_model.specs.Paths.{Closes}
+use Rattle.order_model.specs.Paths.{Closes}
 use Rattle.engine_model.proofs.Counting.{count_has, count_some}
 use Rattle.engine_model.proofs.Views.{names_by, none_some}
 use Rattle.engine_model.proofs.Edits.{edits_keep}

@@ -1,18 +1,22 @@
 -- Why the two added facts are needed.
 use Rattle.std.proofs.Common.{◌≡◌, ◌⊎◌, inl, inr, ◌+◌, ◌≤◌, ℕ, Bool, true, false, cond, ◌&&◌, ◌||◌, arith, refl, sym, ap, ◌∙◌, List, [], ◌∷◌, Some, None, true≢false, eqb, ne_eqb, get_or}
+use Rattle.std.specs.Prelude.{if◌then◌else◌}
 use Rattle.std.proofs.lemmas.Bool.{cases_eq}
-use Rattle.engine_model.specs.World.{Possible, Queued, count_below}
+use Rattle.order_model.specs.World.{Possible, Queued, IsData}
+use Rattle.order_model.specs.Contents.{IsAmong}
+use Rattle.order_model.specs.Counting.{count_below}
 use Rattle.engine_model.specs.Counts.{CountsInvariant}
-use Rattle.engine_model.specs.Entries.{IsData, IsTable, MayName}
+use Rattle.engine_model.specs.Entries.{IsTable, MayName}
 use Rattle.engine_model.specs.DeviceSteps.{Taken, MovesMarks}
 use Rattle.engine_model.specs.Images.{CrashImage, ContentsFit}
 use Rattle.engine_model.proofs.Graphs.{acyclic_none}
 use Rattle.engine_model.specs.Counterexamples.{WeakContents, small, overwritten, after_overwrite, discarded_array, torn_image, stale, stale_array, stale_flushed}
 
-one_block : (S : ℕ → Bool) → count_below 1 S ≤ 1
+one_block : (S : ℕ → Bool) → count_below S 1 ≤ 1
+unfolding count_below
 one_block S = bit (S 0)
   where
-    bit : (b : Bool) → cond b 1 0 + 0 ≤ 1
+    bit : (b : Bool) → (if b then 1 else 0) + 0 ≤ 1
     bit true = omega arith
     bit false = omega arith
 
@@ -23,6 +27,7 @@ only_page : (p : ℕ) → IsData small p → p ≡ 1
 only_page p d = omega arith
 
 one_name : (p l : ℕ) → MayName small overwritten p l → p ≡ 1
+unfolding IsAmong
 one_name p l n = elim n.possible [ inl e ↦ sym n.names ∙ ap (λ c. get_or c 0 0) e | inr x ↦ absurd x ]
 
 table_cases : (page : ℕ) → IsTable small page → (page ≡ 1) ⊎ ((page ≡ 2) ⊎ (page ≡ 3))
@@ -40,6 +45,7 @@ not_one (inl q) = absurd (omega (arith, q.2))
 not_one (inr q) = q
 
 pub overwritten_engine : CountsInvariant small 5 overwritten
+unfolding IsAmong count_below
 overwritten_engine = record {
   marks_and_edges = record {
     live_before = λ a b h. absurd (true≢false (sym h));
@@ -75,10 +81,12 @@ overwritten_engine = record {
 }
 
 one_content : (c : List ℕ) → Possible overwritten 4 c → c ≡ 1 ∷ []
+unfolding IsAmong
 one_content c (inl e) = e
 one_content c (inr x) = absurd x
 
 pub overwritten_contents : (sound : Bool) → WeakContents small sound discarded_array overwritten
+unfolding IsAmong
 overwritten_contents sound = record {
   fresh_data_first = λ p d. record {
     name_dirty = λ l lt n y. absurd (omega (arith, n, d));
@@ -102,6 +110,7 @@ overwritten_contents sound = record {
 }
 
 pub overwrite_taken : Taken overwritten after_overwrite 4
+unfolding IsAmong
 overwrite_taken = record {
   was_dirty = refl;
   no_live = λ a. refl;
@@ -137,6 +146,7 @@ torn page = elim (cases_eq page 4) [ inl e ↦ rw e (inl refl) | inr ne ↦ rw (
 
 -- After the write a crash may leave the block with content 2, which it never had.
 pub torn_unfit : (sound : Bool) → ContentsFit small sound torn_image discarded_array → ⊥
+unfolding IsAmong
 torn_unfit sound fit = elim ((fit.reads 0 (omega arith)).mapped 1 (omega arith) refl) [
   | inl e ↦ two_one e
   | inr more ↦ elim more [ inl e ↦ two_zero e | inr x ↦ x ]
@@ -153,9 +163,11 @@ torn_unfit sound fit = elim ((fit.reads 0 (omega arith)).mapped 1 (omega arith) 
 
 -- a clean data page with another content in the cache: all else is settled
 stale_name : (p l : ℕ) → MayName small stale p l → p ≡ 1
+unfolding IsAmong
 stale_name p l n = elim n.possible [ inl e ↦ sym n.names ∙ ap (λ c. get_or c 0 0) e | inr x ↦ absurd x ]
 
 stale_one : (c : List ℕ) → Possible stale 4 c → c ≡ 1 ∷ []
+unfolding IsAmong
 stale_one c (inl e) = e
 stale_one c (inr x) = absurd x
 
@@ -163,6 +175,7 @@ stale_table : (page : ℕ) → IsTable small page → stale.cached page ≡ 1 �
 stale_table page is = elim (table_cases page is) [ inl e ↦ rw e | inr o ↦ elim o [ inl e ↦ rw e | inr e ↦ rw e ] ]
 
 pub stale_engine : CountsInvariant small 5 stale
+unfolding IsAmong count_below
 stale_engine = record {
   marks_and_edges = record {
     live_before = λ a b h. absurd (true≢false (sym h));
@@ -198,6 +211,7 @@ stale_engine = record {
 }
 
 pub stale_contents : (sound : Bool) → WeakContents small sound stale_array stale
+unfolding IsAmong
 stale_contents sound = record {
   fresh_data_first = λ p d. record {
     name_dirty = λ l lt n y. absurd (true≢false (sym y));
@@ -222,6 +236,7 @@ stale_contents sound = record {
 
 -- A flush has nothing to write, and then the block's list is 2 alone, while the device reads 1.
 pub stale_unfit : (sound : Bool) → WeakContents small sound stale_flushed stale → ⊥
+unfolding IsAmong
 stale_unfit sound c = elim ((c.reads 0 (omega arith)).mapped 1 (omega arith) (record { content = 1 ∷ []; possible = inl refl; names = refl })) [
   | inl e ↦ one_two e
   | inr x ↦ x

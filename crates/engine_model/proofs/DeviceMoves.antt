@@ -1,7 +1,8 @@
 -- The device's steps as functions are steps.
 use Rattle.std.proofs.Common.{◌≡◌, inl, inr, ℕ, Bool, cond, refl, ap, ◌∙◌, subst, List, [], ◌∷◌, eqb, eq-eqb, ne_eqb}
 use Rattle.std.proofs.lemmas.Bool.{cases_eq}
-use Rattle.engine_model.specs.World.{Layout, World, Has}
+use Rattle.order_model.specs.World.{Layout, World}
+use Rattle.order_model.specs.Contents.{IsAmong}
 use Rattle.engine_model.specs.Entries.{Apart}
 use Rattle.engine_model.specs.DeviceSteps.{Barrier, IsReady, KeepsMarks, MovesMarks, Taken, barrier_made, page_taken, page_written}
 use Rattle.engine_model.specs.Invariant.{EngineInvariant, Moment}
@@ -11,6 +12,7 @@ use Rattle.engine_model.proofs.Lasts.{has_parts}
 use Rattle.engine_model.proofs.Schedule.{step_keeps}
 
 pub barrier_made_is : (w : World) → Barrier w (barrier_made w)
+unfolding IsAmong
 barrier_made_is w = record {
   newest = λ page. refl;
   possible = λ page c q. elim q [ inl e ↦ e | inr h ↦ elim h [ inl e ↦ e | inr none ↦ absurd none ] ];
@@ -23,6 +25,7 @@ barrier_made_is w = record {
 }
 
 pub page_taken_is : (w : World) (page : ℕ) → IsReady w page → Taken w (page_taken page w) page
+unfolding IsAmong
 page_taken_is w page ready = record {
   was_dirty = ready.dirty;
   no_live = ready.no_live;
@@ -34,21 +37,21 @@ page_taken_is w page ready = record {
       | inl n ↦ inr (e, n ∙ ap (λ b. cond b (w.cached page) (w.newest other)) (eq-eqb other page e))
       | inr h ↦ elim (has_parts c (w.older other) (cond (eqb other page) (w.cached page ∷ []) []) h) [
         | inl was ↦ inl (inr was)
-        | inr new ↦ inr (e, one c (subst (λ b. Has c (cond b (w.cached page ∷ []) [])) (eq-eqb other page e) new))
+        | inr new ↦ inr (e, one c (subst (λ b. IsAmong c (cond b (w.cached page ∷ []) [])) (eq-eqb other page e) new))
       ]
     ]
     | inr ne ↦ elim q [
       | inl n ↦ inl (inl (n ∙ ap (λ b. cond b (w.cached page) (w.newest other)) (ne_eqb other page ne)))
       | inr h ↦ elim (has_parts c (w.older other) (cond (eqb other page) (w.cached page ∷ []) []) h) [
         | inl was ↦ inl (inr was)
-        | inr new ↦ absurd (subst (λ b. Has c (cond b (w.cached page ∷ []) [])) (ne_eqb other page ne) new)
+        | inr new ↦ absurd (subst (λ b. IsAmong c (cond b (w.cached page ∷ []) [])) (ne_eqb other page ne) new)
       ]
     ]
   ];
   cached = λ other. refl;
 }
   where
-    one : (c : List ℕ) → Has c (w.cached page ∷ []) → c ≡ w.cached page
+    one : (c : List ℕ) → IsAmong c (w.cached page ∷ []) → c ≡ w.cached page
     one c (inl e) = e
     one c (inr none) = absurd none
 

@@ -1,13 +1,17 @@
 -- A dropped data page keeps what the engine keeps.
 use Rattle.std.proofs.Common.{◌≡◌, ◌≢◌, inl, inr, ◌<◌, ℕ, Bool, true, false, arith, refl, sym, ap, ◌∙◌, subst, List, Some, true≢false}
 use Rattle.std.proofs.lemmas.Bool.{cases_eq, false_from_ne_true}
-use Rattle.engine_model.specs.World.{Layout, World}
+use Rattle.order_model.specs.World.{Layout, World, IsData}
 use Rattle.engine_model.specs.Counts.{CountsInvariant}
-use Rattle.engine_model.specs.Entries.{MayName, MayPrint, HasEdge, NoEdge, IsData, cached_name, cached_count, cached_print, cached_names, Apart}
+use Rattle.engine_model.specs.Entries.{MayName, MayPrint, HasEdge, NoEdge, cached_name, cached_count, cached_print, cached_names, Apart}
 use Rattle.engine_model.specs.Contents.{ContentsInvariant, DataOrdered, NamedFixed, NamedStands}
 use Rattle.engine_model.specs.Drops.{Dropped}
-use Rattle.engine_model.specs.Births.{BirthKnown, Call, IsSlot, Name, Print, Slot, cached_value, place_of, value_in}
-use Rattle.engine_model.specs.Pool.{PoolKnows, Told}
+use Rattle.order_model.specs.Calls.{Call}
+use Rattle.order_model.specs.declared.Slot.TheVariants.{Name, Print}
+use Rattle.order_model.specs.declared.Slot.{Slot}
+use Rattle.engine_model.specs.Births.{BirthKnown, IsSlot, cached_value, place_of, value_in}
+use Rattle.order_model.specs.Pool.{Told}
+use Rattle.engine_model.specs.Pool.{PoolKnows}
 use Rattle.engine_model.proofs.Named.{Kept, named_kept, named_parts, printed_kept}
 use Rattle.engine_model.proofs.Views.{names_by, newest_name_same, newest_count_same, newest_print_same}
 use Rattle.engine_model.proofs.WriteContents.{name_counted}

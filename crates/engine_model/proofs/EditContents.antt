@@ -1,9 +1,9 @@
 -- Edits keep the contents.
 use Rattle.std.proofs.Common.{◌≡◌, inl, inr, ◌<◌, ℕ, Bool, true, false, arith, refl, sym, ap, ◌∙◌, subst, List, Some, true≢false, eq-eqb, eqb-true, eqb}
 use Rattle.std.proofs.lemmas.Bool.{false_from_ne_true}
-use Rattle.engine_model.specs.World.{Layout, World}
+use Rattle.order_model.specs.World.{Layout, World, IsData}
 use Rattle.engine_model.specs.Counts.{CountsInvariant}
-use Rattle.engine_model.specs.Entries.{MayName, MayPrint, HasEdge, IsData, cached_name, cached_print}
+use Rattle.engine_model.specs.Entries.{MayName, MayPrint, HasEdge, cached_name, cached_print}
 use Rattle.engine_model.specs.Contents.{ContentsInvariant, DataOrdered, NamedFixed, NamedStands, Reads}
 use Rattle.engine_model.specs.Known.{Free}
 use Rattle.engine_model.specs.Edits.{ContentEdits}

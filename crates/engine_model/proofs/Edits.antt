@@ -1,9 +1,9 @@
 -- Edits that bring their edges and releases keep what the engine keeps.
 use Rattle.std.proofs.Common.{◌≡◌, inl, inr, ◌<◌, ℕ, false, refl, sym, ◌∙◌, List, true≢false}
 use Rattle.std.proofs.lemmas.Bool.{false_from_ne_true}
-use Rattle.engine_model.specs.World.{Layout, World}
+use Rattle.order_model.specs.World.{Layout, World, IsData}
 use Rattle.engine_model.specs.Counts.{CountsInvariant, MarksAndEdges, Balanced, CoversNames, CoversPrints, OwesRelease, LostPrint, Covered, Near}
-use Rattle.engine_model.specs.Entries.{MayName, MayPrint, HasEdge, IsData, newest_name}
+use Rattle.engine_model.specs.Entries.{MayName, MayPrint, HasEdge, newest_name}
 use Rattle.engine_model.proofs.Views.{newest_name_same, newest_count_same, newest_print_same}
 use Rattle.engine_model.specs.Edits.{Edits}
 

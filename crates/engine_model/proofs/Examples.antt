@@ -1,9 +1,11 @@
 -- The edits of a write and of an applied release can be made.
 use Rattle.std.proofs.Common.{◌≡◌, ◌≢◌, ◌⊎◌, inl, inr, ◌<◌, ℕ, true, false, ◌||◌, arith, refl, sym, subst, [], ◌∷◌, true≢false, eqb, ne_eqb, eqb-true}
 use Rattle.std.proofs.lemmas.Bool.{or_cases, or_left, or_right, and_parts}
-use Rattle.engine_model.specs.Entries.{IsTable, IsData}
+use Rattle.order_model.specs.Contents.{IsAmong}
+use Rattle.order_model.specs.World.{IsData}
+use Rattle.engine_model.specs.Entries.{IsTable}
 use Rattle.engine_model.specs.Known.{Free, Tells}
-use Rattle.engine_model.specs.Paths.{Closes}
+use Rattle.order_model.specs.Paths.{Closes}
 use Rattle.engine_model.specs.Edits.{CacheOnly}
 use Rattle.engine_model.specs.Commands.{Gains, Mandatory, Renamed, PageContent}
 use Rattle.engine_model.specs.Releases.{NeededEdge, Applied}
@@ -59,6 +61,7 @@ only_one : (q : ℕ) → IsData printed q → 1 ≡ q
 only_one q d = omega (arith, d)
 
 pub empty_free : Free printed empty 1
+unfolding IsAmong
 empty_free = record { cached = refl; on_device = λ c q. elim q [ inl e ↦ rw e | inr x ↦ absurd x ] }
 
 pub empty_tells : Tells printed empty (asked true)

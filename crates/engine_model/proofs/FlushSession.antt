@@ -1,8 +1,11 @@
 -- The flush in small is a run of steps, and so is the change of the version after it.
 use Rattle.std.proofs.Common.{◌≡◌, inl, inr, ◌<◌, ℕ, Bool, true, false, not, ◌||◌, ◌&&◌, arith, refl, sym, ap, subst, List, [], ◌∷◌, eqb, ne_eqb}
 use Rattle.std.proofs.Math.Bool.{and-false}
+use Rattle.order_model.specs.Counting.{count_below}
 use Rattle.engine_model.specs.Contents.{Last}
-use Rattle.engine_model.specs.Births.{Slot, Name, Print, IsSlot, Leads, cached_value}
+use Rattle.order_model.specs.declared.Slot.{Slot}
+use Rattle.order_model.specs.declared.Slot.TheVariants.{Name, Print}
+use Rattle.engine_model.specs.Births.{IsSlot, Leads, cached_value}
 use Rattle.engine_model.specs.DeviceSteps.{IsReady}
 use Rattle.engine_model.specs.Corrections.{Corrected}
 use Rattle.engine_model.specs.Invariant.{EngineInvariant, Moment}
@@ -78,6 +81,7 @@ flush_step = FlushDone no_node
 
 -- nothing is to be corrected
 settled_corrected : Corrected printed flushed.world flushed.world 1
+unfolding count_below
 settled_corrected = record {
   rest = record {
     newest = λ a. refl;

@@ -1,7 +1,7 @@
 -- What holds where no page is a node, as after a flush, and that a second flush leaves nothing.
 use Rattle.std.proofs.Common.{◌≡◌, inl, inr, ◌<◌, ℕ, Bool, refl, sym, ap, ◌∙◌, subst, List, [], true≢false}
 use Rattle.std.proofs.lemmas.Bool.{false_from_ne_true}
-use Rattle.engine_model.specs.World.{Layout}
+use Rattle.order_model.specs.World.{Layout}
 use Rattle.engine_model.specs.Entries.{Apart, cached_name}
 use Rattle.engine_model.specs.Contents.{Last}
 use Rattle.engine_model.specs.Births.{NothingRecorded}

@@ -1,8 +1,8 @@
 -- A data page with count 0 is given up: the state after it is that of a dropped page.
 use Rattle.std.proofs.Common.{◌≡◌, ℕ, Bool, refl, eq-eqb, ne_eqb}
 use Rattle.std.proofs.Math.Bool.{and-false, and-true}
-use Rattle.engine_model.specs.World.{Layout, World}
-use Rattle.engine_model.specs.Entries.{Apart, IsData, cached_count}
+use Rattle.order_model.specs.World.{Layout, World, IsData}
+use Rattle.engine_model.specs.Entries.{Apart, cached_count}
 use Rattle.engine_model.specs.Drops.{Dropped}
 use Rattle.engine_model.specs.Invariant.{EngineInvariant, Moment}
 use Rattle.engine_model.specs.Schedule.{DropData}

@@ -1,8 +1,11 @@
 -- The edges of a list after the calls of a graph, and that no call makes a cycle.
-use Rattle.std.proofs.Common.{◌≡◌, ◌⊎◌, inl, inr, ℕ, Bool, true, false, not, ◌&&◌, ◌||◌, arith, refl, sym, ap, ◌∙◌, subst, true≢false, List, [], ◌∷◌, eqb, ne_eqb}
+use Rattle.std.proofs.Common.{◌≡◌, ◌⊎◌, inl, inr, ℕ, Bool, true, false, not, ◌&&◌, ◌||◌, arith, refl, sym, ap, ◌∙◌, subst, true≢false, List, [], ◌∷◌, cond, eqb, ne_eqb}
 use Rattle.std.proofs.lemmas.Bool.{cases_eq, cases_Bool, and_parts}
-use Rattle.engine_model.specs.EdgeList.{Edge, live_in, barred_in, after_add, after_drop, after_wrote, after_barrier}
-use Rattle.engine_model.specs.Paths.{LivePath, leg, via, IsAcyclic, Closes}
+use Rattle.order_model.specs.declared.Kind.{Kind}
+use Rattle.order_model.specs.declared.Kind.TheVariants.{Barrier, Live}
+use Rattle.order_model.specs.Edges.{Edge, has_barred, has_live, is_live}
+use Rattle.engine_model.specs.EdgeList.{after_add, after_drop, after_wrote, after_barrier}
+use Rattle.order_model.specs.Paths.{LivePath, leg, via, IsAcyclic, Closes}
 
 live_bits : (x y l p rest : Bool) → ((x && (y && (l && not p))) || (rest && not p)) ≡ ((x && (y && l)) || rest) && not p
 live_bits x y l p rest = grind arith
@@ -23,28 +26,35 @@ same_barred e a b page live = elim (cases_eq e.before a) [
   | inr ne ↦ rw (ne_eqb e.before a ne)
 ]
 
-pub live_wrote : (es : List Edge) (page a b : ℕ) → live_in (after_wrote page es) a b ≡ live_in es a b && not (eqb a page)
+-- an edge from the written page waits for the barrier alone
+wrote_live : (b : Bool) (k : Kind) → is_live (cond b Barrier k) ≡ (is_live k && not b)
+wrote_live true Live = refl
+wrote_live true Barrier = refl
+wrote_live false Live = refl
+wrote_live false Barrier = refl
+
+pub live_wrote : (es : List Edge) (page a b : ℕ) → has_live (after_wrote page es) a b ≡ has_live es a b && not (eqb a page)
 live_wrote [] page a b = refl
-live_wrote (e ∷ es) page a b = rw (live_wrote es page a b, same_page e a b page e.is_live) (live_bits (eqb e.before a) (eqb e.after b) e.is_live (eqb a page) (live_in es a b))
+live_wrote (e ∷ es) page a b = rw (wrote_live (eqb e.before page) e.kind, live_wrote es page a b, same_page e a b page (is_live e.kind)) (live_bits (eqb e.before a) (eqb e.after b) (is_live e.kind) (eqb a page) (has_live es a b))
 
-pub barred_wrote : (es : List Edge) (page a b : ℕ) → barred_in (after_wrote page es) a b ≡ barred_in es a b || (live_in es a b && eqb a page)
+pub barred_wrote : (es : List Edge) (page a b : ℕ) → has_barred (after_wrote page es) a b ≡ has_barred es a b || (has_live es a b && eqb a page)
 barred_wrote [] page a b = refl
-barred_wrote (e ∷ es) page a b = rw (barred_wrote es page a b, same_barred e a b page e.is_live) (barred_bits (eqb e.before a) (eqb e.after b) e.is_live (eqb a page) (barred_in es a b) (live_in es a b))
+barred_wrote (e ∷ es) page a b = rw (wrote_live (eqb e.before page) e.kind, barred_wrote es page a b, same_barred e a b page (is_live e.kind)) (barred_bits (eqb e.before a) (eqb e.after b) (is_live e.kind) (eqb a page) (has_barred es a b) (has_live es a b))
 
-pub live_barrier : (es : List Edge) (a b : ℕ) → live_in (after_barrier es) a b ≡ live_in es a b
+pub live_barrier : (es : List Edge) (a b : ℕ) → has_live (after_barrier es) a b ≡ has_live es a b
 live_barrier [] a b = refl
-live_barrier (e ∷ es) a b = elim (cases_Bool e.is_live) [
-  | inl is ↦ rw (is, live_barrier es a b)
-  | inr off ↦ rw (off, live_barrier es a b) (gone (eqb e.before a) (eqb e.after b) (live_in es a b))
+live_barrier (e ∷ es) a b = elim (cases_Bool (is_live e.kind)) [
+  | inl is ↦ rw is (rw (is, live_barrier es a b) refl)
+  | inr off ↦ rw (off, live_barrier es a b) (gone (eqb e.before a) (eqb e.after b) (has_live es a b))
 ]
   where
     gone : (x y rest : Bool) → rest ≡ ((x && (y && false)) || rest)
     gone x y rest = grind arith
 
-pub barred_barrier : (es : List Edge) (a b : ℕ) → barred_in (after_barrier es) a b ≡ false
+pub barred_barrier : (es : List Edge) (a b : ℕ) → has_barred (after_barrier es) a b ≡ false
 barred_barrier [] a b = refl
-barred_barrier (e ∷ es) a b = elim (cases_Bool e.is_live) [
-  | inl is ↦ rw (is, barred_barrier es a b) (gone (eqb e.before a) (eqb e.after b))
+barred_barrier (e ∷ es) a b = elim (cases_Bool (is_live e.kind)) [
+  | inl is ↦ rw is (rw (is, barred_barrier es a b) (gone (eqb e.before a) (eqb e.after b)))
   | inr off ↦ rw off (barred_barrier es a b)
 ]
   where
@@ -69,59 +79,59 @@ there a b x y f h = elim (cases_eq a x) [
 off : (p q r : Bool) → r ≡ ((p && (q && false)) || r)
 off p q r = grind arith
 
-pub live_added : (e : Edge) (es : List Edge) (a b : ℕ) → live_in (after_add e es) a b ≡ (eqb e.before a && (eqb e.after b && e.is_live)) || live_in es a b
-live_added e es a b = elim (cases_Bool e.is_live) [
-  | inl is ↦ elim (cases_Bool (live_in es e.before e.after)) [
-    | inl old ↦ rw (is, old) (there e.before e.after a b (live_in es) old)
-    | inr new ↦ rw (is, new)
+pub live_added : (e : Edge) (es : List Edge) (a b : ℕ) → has_live (after_add e es) a b ≡ (eqb e.before a && (eqb e.after b && is_live e.kind)) || has_live es a b
+live_added e es a b = elim (cases_Bool (is_live e.kind)) [
+  | inl is ↦ elim (cases_Bool (has_live es e.before e.after)) [
+    | inl old ↦ rw (is, old) (there e.before e.after a b (has_live es) old)
+    | inr new ↦ rw (is, new) (rw is refl)
   ]
-  | inr barrier ↦ elim (cases_Bool (barred_in es e.before e.after)) [
-    | inl old ↦ rw (barrier, old) (off (eqb e.before a) (eqb e.after b) (live_in es a b))
-    | inr new ↦ rw (barrier, new)
+  | inr barrier ↦ elim (cases_Bool (has_barred es e.before e.after)) [
+    | inl old ↦ rw (barrier, old) (off (eqb e.before a) (eqb e.after b) (has_live es a b))
+    | inr new ↦ rw (barrier, new) (rw barrier refl)
   ]
 ]
 
-pub barred_added : (e : Edge) (es : List Edge) (a b : ℕ) → barred_in (after_add e es) a b ≡ (eqb e.before a && (eqb e.after b && not e.is_live)) || barred_in es a b
-barred_added e es a b = elim (cases_Bool e.is_live) [
-  | inr is ↦ elim (cases_Bool (barred_in es e.before e.after)) [
-    | inl old ↦ rw (is, old) (there e.before e.after a b (barred_in es) old)
-    | inr new ↦ rw (is, new)
+pub barred_added : (e : Edge) (es : List Edge) (a b : ℕ) → has_barred (after_add e es) a b ≡ (eqb e.before a && (eqb e.after b && not (is_live e.kind))) || has_barred es a b
+barred_added e es a b = elim (cases_Bool (is_live e.kind)) [
+  | inr is ↦ elim (cases_Bool (has_barred es e.before e.after)) [
+    | inl old ↦ rw (is, old) (there e.before e.after a b (has_barred es) old)
+    | inr new ↦ rw (is, new) (rw is refl)
   ]
-  | inl live ↦ elim (cases_Bool (live_in es e.before e.after)) [
-    | inl old ↦ rw (live, old) (off (eqb e.before a) (eqb e.after b) (barred_in es a b))
-    | inr new ↦ rw (live, new)
+  | inl live ↦ elim (cases_Bool (has_live es e.before e.after)) [
+    | inl old ↦ rw (live, old) (off (eqb e.before a) (eqb e.after b) (has_barred es a b))
+    | inr new ↦ rw (live, new) (rw live refl)
   ]
 ]
 
 keep_bits : (x y l p rest : Bool) → (p && l) ≡ false → ((x && (y && l)) || (rest && not p)) ≡ ((x && (y && l)) || rest) && not p
 keep_bits x y l p rest h = grind arith
 
-pub live_dropped : (es : List Edge) (page a b : ℕ) → live_in (after_drop page es) a b ≡ live_in es a b && not (eqb a page)
+pub live_dropped : (es : List Edge) (page a b : ℕ) → has_live (after_drop page es) a b ≡ has_live es a b && not (eqb a page)
 live_dropped [] page a b = refl
-live_dropped (e ∷ es) page a b = elim (cases_Bool (eqb e.before page && e.is_live)) [
+live_dropped (e ∷ es) page a b = elim (cases_Bool (eqb e.before page && is_live e.kind)) [
   | inl gone ↦ rw (gone, live_dropped es page a b) (gone_here (and_parts _ _ gone).0)
   | inr stays ↦ rw (stays, live_dropped es page a b) (stays_here stays)
 ]
   where
-    gone_here : eqb e.before page ≡ true → (live_in es a b && not (eqb a page)) ≡ ((eqb e.before a && (eqb e.after b && e.is_live)) || live_in es a b) && not (eqb a page)
+    gone_here : eqb e.before page ≡ true → (has_live es a b && not (eqb a page)) ≡ ((eqb e.before a && (eqb e.after b && is_live e.kind)) || has_live es a b) && not (eqb a page)
     gone_here at = elim (cases_eq e.before a) [
       | inr ne ↦ rw (ne_eqb e.before a ne)
-      | inl same ↦ rw (← same, at) (all_off (live_in es e.before b) (eqb e.before e.before && (eqb e.after b && e.is_live)))
+      | inl same ↦ rw (← same, at) (all_off (has_live es e.before b) (eqb e.before e.before && (eqb e.after b && is_live e.kind)))
     ]
       where
         all_off : (p q : Bool) → (p && not true) ≡ ((q || p) && not true)
         all_off p q = grind arith
 
-    stays_here : (eqb e.before page && e.is_live) ≡ false → ((eqb e.before a && (eqb e.after b && e.is_live)) || (live_in es a b && not (eqb a page))) ≡ ((eqb e.before a && (eqb e.after b && e.is_live)) || live_in es a b) && not (eqb a page)
+    stays_here : (eqb e.before page && is_live e.kind) ≡ false → ((eqb e.before a && (eqb e.after b && is_live e.kind)) || (has_live es a b && not (eqb a page))) ≡ ((eqb e.before a && (eqb e.after b && is_live e.kind)) || has_live es a b) && not (eqb a page)
     stays_here h = elim (cases_eq e.before a) [
       | inr ne ↦ rw (ne_eqb e.before a ne)
-      | inl same ↦ rw (← same) (keep_bits (eqb e.before e.before) (eqb e.after b) e.is_live (eqb e.before page) (live_in es e.before b) h)
+      | inl same ↦ rw (← same) (keep_bits (eqb e.before e.before) (eqb e.after b) (is_live e.kind) (eqb e.before page) (has_live es e.before b) h)
     ]
 
-pub barred_dropped : (es : List Edge) (page a b : ℕ) → barred_in (after_drop page es) a b ≡ barred_in es a b
+pub barred_dropped : (es : List Edge) (page a b : ℕ) → has_barred (after_drop page es) a b ≡ has_barred es a b
 barred_dropped [] page a b = refl
-barred_dropped (e ∷ es) page a b = elim (cases_Bool (eqb e.before page && e.is_live)) [
-  | inl gone ↦ let live : e.is_live ≡ true = (and_parts (eqb e.before page) e.is_live gone).1 in rw (gone, barred_dropped es page a b, live) (off (eqb e.before a) (eqb e.after b) (barred_in es a b))
+barred_dropped (e ∷ es) page a b = elim (cases_Bool (eqb e.before page && is_live e.kind)) [
+  | inl gone ↦ let live : is_live e.kind ≡ true = (and_parts (eqb e.before page) (is_live e.kind) gone).1 in rw (gone, barred_dropped es page a b, live) (off (eqb e.before a) (eqb e.after b) (has_barred es a b))
   | inr stays ↦ rw (stays, barred_dropped es page a b)
 ]
 

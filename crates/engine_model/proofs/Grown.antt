@@ -1,6 +1,6 @@
 -- A touched page, a raised count and an added edge are edits that bring what they are to bring.
 use Rattle.std.proofs.Common.{◌≡◌, inl, ℕ, arith, sym, ap, ◌∙◌}
-use Rattle.engine_model.specs.World.{Layout, World, queued}
+use Rattle.order_model.specs.World.{Layout, World, queued}
 use Rattle.engine_model.specs.Counts.{CountsInvariant}
 use Rattle.engine_model.specs.Edits.{Edits, Grown}
 use Rattle.engine_model.proofs.Edits.{edits_keep}

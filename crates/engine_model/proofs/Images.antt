@@ -1,6 +1,6 @@
 -- Each image that a crash leaves has counts that cover its names and its prints.
 use Rattle.std.proofs.Common.{inl, ℕ, List, eqb, eqb-true, Bool}
-use Rattle.engine_model.specs.World.{Layout, World}
+use Rattle.order_model.specs.World.{Layout, World}
 use Rattle.engine_model.specs.Counts.{CountsInvariant}
 use Rattle.engine_model.specs.Entries.{MayName, MayPrint}
 use Rattle.engine_model.specs.Contents.{ContentsInvariant}

@@ -1,9 +1,9 @@
 -- A count is lowered: by its release that is taken out, once the edge of the release stands, or by waste.
 use Rattle.std.proofs.Common.{◌≡◌, ◌≢◌, ◌⊎◌, inl, inr, ◌+◌, ◌<◌, ◌≤◌, ℕ, Bool, true, cond, arith, refl, sym, ap, ◌∙◌, subst, List, ◌++◌, None, eqb, eqb-true, eq-eqb, ne_eqb}
 use Rattle.std.proofs.lemmas.Bool.{cases_eq, or_cases, or_left, or_right}
-use Rattle.engine_model.specs.World.{Layout, Queued, Release, World, queued}
-use Rattle.engine_model.specs.Entries.{Apart, HasEdge, IsData, cached_count, cached_name, cached_names, cached_print}
-use Rattle.engine_model.specs.Pool.{Told, after_zeroed}
+use Rattle.order_model.specs.World.{Layout, Queued, Release, World, queued, IsData}
+use Rattle.engine_model.specs.Entries.{Apart, HasEdge, cached_count, cached_name, cached_names, cached_print}
+use Rattle.order_model.specs.Pool.{Told, after_zeroed}
 use Rattle.engine_model.specs.Invariant.{EngineInvariant, Moment, ToldPool, ToldZero}
 use Rattle.engine_model.specs.Edits.{CacheOnly, ContentEdits, Edits}
 use Rattle.engine_model.specs.SmallSteps.{CanLower, CanRecount, SetsCount, lowered, put}

@@ -1,7 +1,7 @@
 -- A data page that is named, or has a print, on the device: it has one possible content and is no node.
 use Rattle.std.proofs.Common.{◌<◌, ℕ, Bool, List}
-use Rattle.engine_model.specs.World.{Layout, World}
-use Rattle.engine_model.specs.Entries.{IsData, MayName, MayPrint}
+use Rattle.order_model.specs.World.{Layout, World, IsData}
+use Rattle.engine_model.specs.Entries.{MayName, MayPrint}
 use Rattle.engine_model.specs.Contents.{ContentsInvariant, IsFixed, NamedFixed, NamedStands, Stands}
 
 abbrev pub Kept : Layout → World → ℕ → Type 0

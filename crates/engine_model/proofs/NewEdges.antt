@@ -1,9 +1,9 @@
 -- Of which kinds the new edges of an edit are, and that they close no cycle.
 use Rattle.std.proofs.Common.{◌≡◌, ◌⊎◌, inl, inr, ◌<◌, ℕ, refl, sym, subst}
-use Rattle.engine_model.specs.World.{Layout, World, Release}
-use Rattle.engine_model.specs.Entries.{EdgeKind, HasEdge, IsTable, IsData, Apart}
+use Rattle.order_model.specs.World.{Layout, World, Release, IsData}
+use Rattle.engine_model.specs.Entries.{EdgeKind, HasEdge, IsTable, Apart}
 use Rattle.engine_model.specs.Counts.{EdgeKinds}
-use Rattle.engine_model.specs.Paths.{IsAcyclic, Closes}
+use Rattle.order_model.specs.Paths.{IsAcyclic, Closes}
 use Rattle.engine_model.specs.Known.{Known}
 use Rattle.engine_model.specs.Edits.{NewEdges}
 use Rattle.engine_model.specs.Releases.{NeededEdge, NeededBarrier, IsBlocked}

@@ -1,7 +1,8 @@
 -- A fold can be made.
 use Rattle.std.proofs.Common.{◌≡◌, ◌≢◌, ◌⊎◌, inl, inr, ◌<◌, ℕ, true, false, arith, refl, sym, true≢false, eqb, eqb-true}
 use Rattle.std.proofs.lemmas.Bool.{and_parts}
-use Rattle.engine_model.specs.Entries.{IsData, IsTable}
+use Rattle.order_model.specs.World.{IsData}
+use Rattle.engine_model.specs.Entries.{IsTable}
 use Rattle.engine_model.specs.Edits.{CacheOnly}
 use Rattle.engine_model.specs.Commands.{PageContent, Renamed}
 use Rattle.engine_model.specs.Examples.{asked}

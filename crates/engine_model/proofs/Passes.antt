@@ -1,11 +1,14 @@
 -- After a pass exactly the blocked releases are queued; and after a flush nothing is.
 use Rattle.std.proofs.Common.{◌≡◌, ◌≢◌, ◌⊎◌, inl, inr, ◌+◌, ◌<◌, ◌++◌, ℕ, Bool, true, false, ◌||◌, cond, arith, refl, sym, ap, ◌∙◌, subst, List, [], ◌∷◌, map, true≢false, eqb, eq-eqb}
 use Rattle.std.proofs.lemmas.Bool.{cases_Bool, and_parts, and_from, or_parts, not-true, not_from_false, false_from_ne_true}
-use Rattle.engine_model.specs.World.{Agree, Layout, Release, Queued, queued}
+use Rattle.order_model.specs.World.{Agree, Layout, Release, Queued, queued, IsData}
 use Rattle.engine_model.specs.Contents.{ContentsInvariant}
-use Rattle.engine_model.specs.Entries.{IsCount, IsData, IsPrint, cached_count, cached_print, Apart}
-use Rattle.engine_model.specs.Paths.{LivePath, leg, via, Closes}
-use Rattle.engine_model.specs.Births.{Call, Edit, Leads, Print, Slot, cached_value, has_print, is_changed, is_met, is_unborn, place_of, same_slot, since, told}
+use Rattle.engine_model.specs.Entries.{IsCount, IsPrint, cached_count, cached_print, Apart}
+use Rattle.order_model.specs.Paths.{LivePath, leg, via, Closes}
+use Rattle.order_model.specs.Calls.{Call, is_changed, is_met, is_unborn, same_slot, since}
+use Rattle.order_model.specs.declared.Slot.TheVariants.{Print}
+use Rattle.order_model.specs.declared.Slot.{Slot}
+use Rattle.engine_model.specs.Births.{Edit, Leads, cached_value, has_print, place_of, told}
 use Rattle.engine_model.specs.Drops.{Dropped}
 use Rattle.engine_model.specs.Releases.{IsBlocked, IsLastPrint}
 use Rattle.engine_model.specs.Schedule.{WriteAgain, DiscardAgain, BarrierDone, Correct, Discard, DropData, FlushDone, Fold, FoldZero, Unchanged, ReleaseApplied, Step, Write, WriteDone, WriteRefused, WriteTaken, DeviceRun, DeviceStep, NoNode, OfDevice, last_of}

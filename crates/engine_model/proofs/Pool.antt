@@ -2,12 +2,13 @@
 use Rattle.std.proofs.Common.{◌≡◌, ◌≢◌, ◌↔◌, ◌<◌, inl, inr, arith, refl, [], ◌∷◌, eq-zero-or-pos, eqb-true, ℕ, Bool, true, false, not, ◌&&◌, ◌||◌, sym, ap, ◌∙◌, List, eqb, eq-eqb, ne_eqb, true≢false}
 use Rattle.std.proofs.lemmas.Bool.{cases_eq, or_parts, or_cases, or_left, or_right, and_cases, and_parts, and_from, not-false, not-true, not_from_false, true_from_ne_false}
 use Rattle.std.proofs.Math.Bool.{or-false}
-use Rattle.engine_model.specs.World.{Layout, World, Possible}
-use Rattle.engine_model.specs.Entries.{IsData, cached_count, newest_count}
+use Rattle.order_model.specs.World.{Layout, World, Possible, IsData}
+use Rattle.engine_model.specs.Entries.{cached_count, newest_count}
 use Rattle.engine_model.specs.Known.{Free}
 use Rattle.engine_model.specs.DeviceSteps.{AtRest, Barrier, Taken}
 use Rattle.engine_model.specs.Edits.{CacheOnly}
-use Rattle.engine_model.specs.Pool.{Told, PoolKnows, Listed, after_take, after_tried, after_written, after_fixed, after_zeroed, is_free, new_pool, taken_all, written_all}
+use Rattle.order_model.specs.Pool.{Told, Listed, after_take, after_tried, after_written, after_fixed, after_zeroed, is_free, new_pool, taken_all, written_all}
+use Rattle.engine_model.specs.Pool.{PoolKnows}
 use Rattle.engine_model.proofs.Views.{count_same, newest_count_same}
 
 module _ (lay : Layout) (w v : World) (page : ℕ) (pool : ℕ → Told) (p : ℕ) (old : PoolKnows lay w (pool p) p) where

@@ -1,11 +1,12 @@
 -- Where no write of a count page failed, the pool has every free page.
 use Rattle.std.proofs.Common.{◌≡◌, ◌<◌, inl, inr, arith, refl, ℕ, true, false, sym, ap, ◌∙◌, subst, List, eq-eqb, eqb-true, ne_eqb, true≢false, eq-zero-or-pos}
 use Rattle.std.proofs.lemmas.Bool.{cases_eq, or_cases, and_parts, and_from, not-true, not_from_false, false_from_ne_true}
-use Rattle.engine_model.specs.World.{Layout, World}
-use Rattle.engine_model.specs.Entries.{IsData, cached_count, newest_count}
+use Rattle.order_model.specs.World.{Layout, World, IsData}
+use Rattle.engine_model.specs.Entries.{cached_count, newest_count}
 use Rattle.engine_model.specs.Known.{Free}
 use Rattle.engine_model.specs.DeviceSteps.{AtRest, Barrier, Taken}
-use Rattle.engine_model.specs.Pool.{Told, PoolExact, PoolKnows, PossibleStays, Listed, after_tried, after_written, after_fixed, is_free, new_pool, taken_all, written_all}
+use Rattle.order_model.specs.Pool.{Told, Listed, after_tried, after_written, after_fixed, is_free, new_pool, taken_all, written_all}
+use Rattle.engine_model.specs.Pool.{PoolExact, PoolKnows, PossibleStays}
 use Rattle.engine_model.proofs.Pool.{tables_newest, taken_zero}
 use Rattle.engine_model.proofs.Views.{newest_count_same}
 

@@ -1,6 +1,6 @@
 -- A release that is pushed, and one that is taken out.
 use Rattle.std.proofs.Common.{◌≡◌, ◌⊎◌, inl, inr, ◌+◌, ℕ, cond, eqb, arith, refl, List, [], ◌∷◌, ◌++◌}
-use Rattle.engine_model.specs.World.{Release, Queued, queued}
+use Rattle.order_model.specs.World.{Release, Queued, queued}
 
 pub queued_out : (before after : List Release) (r : Release) (p : ℕ) → queued (before ++ r ∷ after) p ≡ cond (eqb r.page p) 1 0 + queued (before ++ after) p
 queued_out [] after r p = refl

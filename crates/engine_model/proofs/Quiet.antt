@@ -2,11 +2,11 @@
 use Rattle.std.proofs.Common.{◌≡◌, ◌≢◌, ◌⊎◌, inl, inr, ◌+◌, ◌<◌, ◌≤◌, ℕ, Bool, true, false, not, ◌||◌, ◌&&◌, cond, arith, refl, sym, ap, ◌∙◌, subst, List, eqb, eq-eqb, ne_eqb, eqb-true, true≢false}
 use Rattle.std.proofs.lemmas.Bool.{cases_Bool, cases_eq, or_left, or_right, or_cases, and_parts, and_from, not_from_false}
 use Rattle.std.proofs.Math.Bool.{or-false}
-use Rattle.engine_model.specs.World.{Layout, Release, World}
-use Rattle.engine_model.specs.Entries.{Apart, EdgeKind, HasEdge, IsData, IsTable, cached_count}
-use Rattle.engine_model.specs.Paths.{IsAcyclic, Closes}
+use Rattle.order_model.specs.World.{Layout, Release, World, IsData}
+use Rattle.engine_model.specs.Entries.{Apart, EdgeKind, HasEdge, IsTable, cached_count}
+use Rattle.order_model.specs.Paths.{IsAcyclic, Closes}
 use Rattle.engine_model.specs.Known.{Free}
-use Rattle.engine_model.specs.Pool.{Told, after_take}
+use Rattle.order_model.specs.Pool.{Told, after_take}
 use Rattle.engine_model.specs.Invariant.{EngineInvariant, Moment, ToldPool, ToldTake}
 use Rattle.engine_model.specs.Edits.{CacheOnly, ContentEdits, Grown}
 use Rattle.engine_model.specs.SmallSteps.{CanRaise, ordered, ordered_after, ordered_by_barrier, placed, put, touched}

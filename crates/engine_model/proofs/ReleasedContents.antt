@@ -1,9 +1,9 @@
 -- An applied release and a discard keep the contents.
 use Rattle.std.proofs.Common.{◌≡◌, ◌≢◌, ◌⊎◌, inl, inr, ◌+◌, ◌<◌, ℕ, Bool, arith, refl, sym, ap, ◌∙◌, subst, List, [], ◌∷◌, ◌++◌, true≢false, eqb, eqb-true}
 use Rattle.std.proofs.lemmas.Bool.{cases_eq}
-use Rattle.engine_model.specs.World.{Layout, World, Release}
+use Rattle.order_model.specs.World.{Layout, World, Release, IsData}
 use Rattle.engine_model.specs.Counts.{CountsInvariant}
-use Rattle.engine_model.specs.Entries.{IsData, cached_name, cached_count, cached_print, cached_names}
+use Rattle.engine_model.specs.Entries.{cached_name, cached_count, cached_print, cached_names}
 use Rattle.engine_model.specs.Contents.{ContentsInvariant, Last}
 use Rattle.engine_model.specs.Known.{Known, Tells}
 use Rattle.engine_model.specs.Releases.{Applied}

@@ -1,9 +1,9 @@
 -- A write and a discard bring their edges and their release.
 use Rattle.std.proofs.Common.{◌≡◌, ◌≢◌, ◌⊎◌, inl, inr, ◌+◌, ◌<◌, ◌≤◌, ℕ, Bool, true, cond, eqb, arith, refl, sym, ap, ◌∙◌, subst, List, [], ◌∷◌, ◌++◌, Some, eq-eqb, ne_eqb}
 use Rattle.std.proofs.lemmas.Bool.{cases_eq, cases_Bool}
-use Rattle.engine_model.specs.World.{Layout, World, Release, Queued, queued}
+use Rattle.order_model.specs.World.{Layout, World, Release, Queued, queued, IsData}
 use Rattle.engine_model.specs.Counts.{CountsInvariant}
-use Rattle.engine_model.specs.Entries.{IsData, MayName, MayPrint, cached_name, cached_count, cached_print, cached_names, Apart}
+use Rattle.engine_model.specs.Entries.{MayName, MayPrint, cached_name, cached_count, cached_print, cached_names, Apart}
 use Rattle.engine_model.specs.Edits.{Edits, CacheOnly}
 use Rattle.engine_model.specs.Known.{Known, Free, Tells}
 use Rattle.engine_model.specs.Commands.{Released, Discarded, Renamed}

@@ -1,9 +1,9 @@
 -- A write, a copy by name and a fold keep the contents.
 use Rattle.std.proofs.Common.{◌≡◌, ◌≢◌, ◌⊎◌, inl, inr, ◌<◌, ℕ, Bool, arith, refl, sym, ap, ◌∙◌, subst, List, [], ◌∷◌, ◌++◌}
 use Rattle.std.proofs.lemmas.Bool.{cases_eq}
-use Rattle.engine_model.specs.World.{Layout, World}
+use Rattle.order_model.specs.World.{Layout, World, IsData}
 use Rattle.engine_model.specs.Counts.{CountsInvariant}
-use Rattle.engine_model.specs.Entries.{IsData, cached_name, cached_count, cached_print}
+use Rattle.engine_model.specs.Entries.{cached_name, cached_count, cached_print}
 use Rattle.engine_model.specs.Contents.{ContentsInvariant, Last}
 use Rattle.engine_model.specs.Known.{Known, Free, Tells}
 use Rattle.engine_model.specs.Commands.{Renamed, PageContent, Gains}

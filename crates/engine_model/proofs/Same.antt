@@ -1,7 +1,7 @@
 -- Two states that agree at each page are one.
 use Rattle.std.proofs.Common.{◌≡◌}
 use mathlib.Core.Path.{fun_ext}
-use Rattle.engine_model.specs.World.{World}
+use Rattle.order_model.specs.World.{World}
 use Rattle.engine_model.specs.DeviceSteps.{Same}
 
 pub same_is : (w v : World) → Same w v → v ≡ w

@@ -1,14 +1,16 @@
 -- A scan leaves exact counts; and what a session begins with.
 use Rattle.std.proofs.Common.{◌≡◌, inl, inr, ◌+◌, ◌<◌, ℕ, Bool, arith, refl, sym, ap, ◌∙◌, subst, List, [], ◌∷◌, Some, None, eqb}
 use Rattle.std.proofs.lemmas.Bool.{cases_eq}
-use Rattle.engine_model.specs.World.{Agree, Layout, World, Has}
-use Rattle.engine_model.specs.Entries.{IsData, IsTable, cached_count, cached_name, cached_names, cached_print, Apart}
+use Rattle.order_model.specs.World.{Agree, Layout, World, IsData}
+use Rattle.order_model.specs.Contents.{IsAmong}
+use Rattle.engine_model.specs.Entries.{IsTable, cached_count, cached_name, cached_names, cached_print, Apart}
 use Rattle.engine_model.specs.Contents.{Last}
 use Rattle.engine_model.specs.DeviceSteps.{AtRest}
 use Rattle.engine_model.specs.Corrections.{Corrected}
 use Rattle.engine_model.specs.Images.{ContentsFit, CountsBelow, CountsExact, CountsFit, CrashImage}
 use Rattle.engine_model.specs.Births.{BirthKnown}
-use Rattle.engine_model.specs.Pool.{PoolKnows, Listed, after_fixed, new_pool, taken_all, written_all}
+use Rattle.order_model.specs.Pool.{Listed, after_fixed, new_pool, taken_all, written_all}
+use Rattle.engine_model.specs.Pool.{PoolKnows}
 use Rattle.engine_model.specs.Schedule.{Correct, last_of}
 use Rattle.engine_model.specs.Invariant.{EngineInvariant, Moment}
 use Rattle.engine_model.specs.Scan.{Scan, TablesSettled}
@@ -96,7 +98,7 @@ scan_array lay top p m (n ∷ ns) (inr s) = λ l. scan_array lay top (p + 1) n n
 
 -- the first moment of a session
 pub session_start : (lay : Layout) (top : ℕ) (sound : Bool) (m : Moment) (counted tables : List ℕ) → AtRest m.world → CountsFit lay m.world.newest → CountsBelow lay top m.world.newest
-    → ContentsFit lay sound m.world.newest m.array → ((l : ℕ) → l < lay.blocks → (c : List ℕ) → Has c (m.array l) → Last (m.array l) c) → m.calls ≡ []
+    → ContentsFit lay sound m.world.newest m.array → ((l : ℕ) → l < lay.blocks → (c : List ℕ) → IsAmong c (m.array l) → Last (m.array l) c) → m.calls ≡ []
     → ((p : ℕ) → IsData lay p → (Listed p counted → 0 < cached_count lay m.world p) × (0 < cached_count lay m.world p → Listed p counted)) → ((p : ℕ) → IsData lay p → Listed (lay.count_page p) tables)
     → Agree m.pool (after_fixed (written_all lay tables (taken_all counted new_pool))) → EngineInvariant lay top sound m
 session_start lay top sound m counted tables rest fit below contents alone calls all every pool = record {

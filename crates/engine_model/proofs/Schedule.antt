@@ -1,13 +1,17 @@
 -- Every moment of every schedule keeps all.
 use Rattle.std.proofs.Common.{◌≡◌, ◌≢◌, inl, inr, ◌+◌, ◌<◌, sym, ap, ◌∙◌, refl, arith, subst, ℕ, List, [], ◌∷◌, Bool}
 use Rattle.std.proofs.lemmas.Bool.{cases_eq}
-use Rattle.engine_model.specs.World.{Layout, Agree}
+use Rattle.order_model.specs.World.{Layout, Agree, IsData}
 use Rattle.engine_model.specs.Counts.{CountsInvariant}
-use Rattle.engine_model.specs.Entries.{IsData, cached_count, Apart}
+use Rattle.engine_model.specs.Entries.{cached_count, Apart}
 use Rattle.engine_model.specs.Contents.{ContentsInvariant}
 use Rattle.engine_model.specs.Known.{Tells}
-use Rattle.engine_model.specs.Births.{BirthKnown, Call, IsSlot, Name, Print, Slot, has_print, told}
-use Rattle.engine_model.specs.Pool.{PoolKnows, Told, after_take, after_zeroed}
+use Rattle.order_model.specs.Calls.{Call}
+use Rattle.order_model.specs.declared.Slot.TheVariants.{Name, Print}
+use Rattle.order_model.specs.declared.Slot.{Slot}
+use Rattle.engine_model.specs.Births.{BirthKnown, IsSlot, has_print, told}
+use Rattle.order_model.specs.Pool.{Told, after_take, after_zeroed}
+use Rattle.engine_model.specs.Pool.{PoolKnows}
 use Rattle.engine_model.specs.Edits.{CacheOnly}
 use Rattle.engine_model.specs.Invariant.{Moment, EngineInvariant, ToldBirths, ToldTake, ToldZero, known_at}
 use Rattle.engine_model.specs.Schedule.{Step, BarrierDone, WriteDone, WriteTaken, WriteRefused, Unchanged, ReleaseApplied, Discard, Write, WriteAgain, DiscardAgain, Fold, FoldZero, DropData, Correct, FlushDone, Run, Each}

@@ -1,9 +1,13 @@
 -- The session in small is a run of steps.
 use Rattle.std.proofs.Common.{◌≡◌, ◌≢◌, ◌⊎◌, inl, inr, ◌<◌, ℕ, true, false, ◌||◌, ◌&&◌, arith, refl, sym, ap, subst, ◌≤◌, List, [], ◌∷◌, true≢false, eqb, ne_eqb}
 use Rattle.std.proofs.Math.Bool.{or-false}
-use Rattle.engine_model.specs.World.{count_below}
-use Rattle.engine_model.specs.Entries.{IsTable, IsData, Apart}
-use Rattle.engine_model.specs.Births.{Slot, Name, Print, IsSlot, Leads, cached_value}
+use Rattle.order_model.specs.Contents.{IsAmong}
+use Rattle.order_model.specs.Counting.{count_below}
+use Rattle.order_model.specs.World.{IsData}
+use Rattle.engine_model.specs.Entries.{IsTable, Apart}
+use Rattle.order_model.specs.declared.Slot.{Slot}
+use Rattle.order_model.specs.declared.Slot.TheVariants.{Name, Print}
+use Rattle.engine_model.specs.Births.{IsSlot, Leads, cached_value}
 use Rattle.engine_model.specs.DeviceSteps.{AtRest}
 use Rattle.engine_model.specs.Examples.{printed, empty, written}
 use Rattle.engine_model.specs.Session.{discarded, discarded_world, discard_edits, dropped, count_gone, count_gone_world, dropped_world, mounted, release_edits, unborn_release, write_edits, wrote}
@@ -31,6 +35,7 @@ empty_one c (inl e) = e
 empty_one c (inr x) = absurd x
 
 empty_rest : AtRest empty
+unfolding IsAmong
 empty_rest = record {
   one = λ page c q. empty_one c q;
   cached = λ page. refl;
@@ -42,9 +47,10 @@ empty_rest = record {
 }
 
 pub mounted_kept : EngineInvariant printed 5 true mounted
+unfolding count_below IsAmong
 mounted_kept = session_start printed 5 true mounted [] (2 ∷ []) empty_rest
     (record {
-      names = λ p d. subst (λ q. count_below 1 (λ l. eqb 0 q) ≤ 0) (only p d) (omega arith);
+      names = λ p d. subst (λ q. count_below (λ l. eqb 0 q) 1 ≤ 0) (only p d) (omega arith);
       prints = λ p print d h. absurd (none_some print h);
     })
     (λ p d. omega arith)

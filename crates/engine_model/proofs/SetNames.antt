@@ -1,9 +1,12 @@
 -- A name is set or taken away, and the old one is owed a release.
 use Rattle.std.proofs.Common.{◌≡◌, ◌≢◌, inl, inr, ◌+◌, ◌<◌, ◌≤◌, ℕ, Bool, true, cond, arith, refl, sym, ap, ◌∙◌, subst, List, [], ◌∷◌, ◌++◌, eqb-true, eq-eqb, ne_eqb, true≢false}
 use Rattle.std.proofs.lemmas.Bool.{cases_eq}
-use Rattle.engine_model.specs.World.{Layout, World, queued}
-use Rattle.engine_model.specs.Entries.{Apart, IsData, cached_count, cached_name, cached_names, cached_print}
-use Rattle.engine_model.specs.Births.{Change, IsSlot, Leads, Name, Print, Slot, cached_value, has_print}
+use Rattle.order_model.specs.World.{Layout, World, queued, IsData}
+use Rattle.engine_model.specs.Entries.{Apart, cached_count, cached_name, cached_names, cached_print}
+use Rattle.order_model.specs.Calls.{Change}
+use Rattle.order_model.specs.declared.Slot.TheVariants.{Name, Print}
+use Rattle.order_model.specs.declared.Slot.{Slot}
+use Rattle.engine_model.specs.Births.{IsSlot, Leads, cached_value, has_print}
 use Rattle.engine_model.specs.Invariant.{EngineInvariant, Moment, ToldBirths, known_at}
 use Rattle.engine_model.specs.Known.{Known, Tells}
 use Rattle.engine_model.specs.Edits.{CacheOnly, ContentEdits, Edits, Ordered}

@@ -1,9 +1,12 @@
 -- A print is set once its edges stand, and cleared once its edge stands or where it is unborn.
 use Rattle.std.proofs.Common.{◌≡◌, ◌≢◌, ◌⊎◌, inl, inr, ◌<◌, ℕ, Bool, true, arith, refl, sym, ap, ◌∙◌, subst, List, [], ◌∷◌, Option, Some, None, eqb-true, eq-eqb, true≢false}
 use Rattle.std.proofs.lemmas.Bool.{cases_eq}
-use Rattle.engine_model.specs.World.{Layout, Possible, World}
-use Rattle.engine_model.specs.Entries.{Apart, IsData, MayPrint, cached_count, cached_name, cached_print}
-use Rattle.engine_model.specs.Births.{Change, IsSlot, Leads, Name, Print, Slot, cached_value, has_print}
+use Rattle.order_model.specs.World.{Layout, Possible, World, IsData}
+use Rattle.engine_model.specs.Entries.{Apart, MayPrint, cached_count, cached_name, cached_print}
+use Rattle.order_model.specs.Calls.{Change}
+use Rattle.order_model.specs.declared.Slot.TheVariants.{Name, Print}
+use Rattle.order_model.specs.declared.Slot.{Slot}
+use Rattle.engine_model.specs.Births.{IsSlot, Leads, cached_value, has_print}
 use Rattle.engine_model.specs.Invariant.{EngineInvariant, Moment, ToldBirths, known_at}
 use Rattle.engine_model.specs.Edits.{CacheOnly, ContentEdits, Edits, Ordered}
 use Rattle.engine_model.specs.SmallSteps.{CanClear, CanPrint, SetsPrint, put}

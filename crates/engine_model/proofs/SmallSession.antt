@@ -1,5 +1,6 @@
 -- The session by small steps is a run of small steps.
 use Rattle.std.proofs.Common.{◌≡◌, ◌≢◌, inl, inr, ◌⊎◌, ◌++◌, ℕ, arith, refl, sym, List, [], ◌∷◌, true≢false, ne_eqb}
+use Rattle.order_model.specs.Counting.{count_below}
 use Rattle.engine_model.specs.Entries.{EdgeKind}
 use Rattle.engine_model.specs.Commands.{Gains}
 use Rattle.engine_model.specs.Invariant.{known_at}
@@ -41,6 +42,7 @@ can_print = record {
 }
 
 pub can_name : CanName printed print_set.world 0 0 1 (1 ∷ [])
+unfolding count_below
 can_name = record {
   in_range = omega arith;
   was = refl;
@@ -86,6 +88,7 @@ can_waste : CanRaise printed 5 count_lowered.world 1 (1 ∷ [])
 can_waste = record { is_data = is_data; sets = sets_count (0 ∷ []) 1; below_top = omega arith; dirty = refl; counted_or_fresh = inr refl }
 
 can_recount : CanRecount printed count_wasted.world 1 (0 ∷ []) 0
+unfolding count_below
 can_recount = record { is_data = is_data; sets = sets_count (1 ∷ []) 0; dirty = refl; less = omega arith; enough = omega arith; no_print = λ z. refl }
 
 gains : (before after : ℕ → List (List ℕ)) (c : List ℕ) → after 0 ≡ before 0 ++ c ∷ [] → ((k : ℕ) → k ≢ 0 → after k ≡ before k) → Gains before after 0 c

@@ -1,9 +1,9 @@
 -- Each small step keeps the invariant, and so does a run of steps and small steps.
 use Rattle.std.proofs.Common.{inl, inr, ℕ, Bool, subst, List, [], ◌∷◌}
-use Rattle.engine_model.specs.World.{Layout}
+use Rattle.order_model.specs.World.{Layout}
 use Rattle.engine_model.specs.Entries.{Apart}
 use Rattle.engine_model.specs.Counts.{EdgeKinds}
-use Rattle.engine_model.specs.Paths.{IsAcyclic}
+use Rattle.order_model.specs.Paths.{IsAcyclic}
 use Rattle.engine_model.specs.Images.{ContentsFit, CountsFit, CrashImage}
 use Rattle.engine_model.specs.Invariant.{EngineInvariant, Moment, ToldTake, ToldZero}
 use Rattle.engine_model.specs.Schedule.{Each}

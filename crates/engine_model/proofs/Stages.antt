@@ -1,7 +1,7 @@
 -- What a write and a barrier do to the stages of the queued releases.
 use Rattle.std.proofs.Common.{◌≡◌, ◌≢◌, ◌⊎◌, inl, inr, ℕ, ◌&&◌, cond, eqb, arith, refl, sym, ap, ◌∙◌, List, [], ◌∷◌, map, eq-eqb, ne_eqb}
 use Rattle.std.proofs.lemmas.Bool.{cases_eq}
-use Rattle.engine_model.specs.World.{Layout, Release, Queued, queued}
+use Rattle.order_model.specs.World.{Layout, Release, Queued, queued}
 use Rattle.engine_model.specs.DeviceSteps.{written_release}
 
 -- releases whose stages alone changed are of the same blocks and pages

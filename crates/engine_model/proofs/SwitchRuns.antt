@@ -3,9 +3,12 @@ use Rattle.std.proofs.Common.{◌≡◌, ◌≢◌, inl, inr, ℕ, Bool, true, f
 use Rattle.std.proofs.lemmas.Bool.{cases_Bool, false_from_ne_true}
 use Rattle.engine_model.specs.SmallSteps.{placed}
 use Rattle.engine_model.proofs.Quiet.{put_other, touched_here, touched_other}
-use Rattle.engine_model.specs.World.{Agree, Layout, Possible, World}
-use Rattle.engine_model.specs.Entries.{IsData, IsTable, Apart}
-use Rattle.engine_model.specs.Births.{Call, Fixed, IsSlot, Name, NothingRecorded, Print, Slot, is_changed, place_of, since, wrote_last}
+use Rattle.order_model.specs.World.{Agree, Layout, Possible, World, IsData}
+use Rattle.engine_model.specs.Entries.{IsTable, Apart}
+use Rattle.order_model.specs.Calls.{Call, Fixed, is_changed, since, wrote_last}
+use Rattle.order_model.specs.declared.Slot.TheVariants.{Name, Print}
+use Rattle.order_model.specs.declared.Slot.{Slot}
+use Rattle.engine_model.specs.Births.{IsSlot, NothingRecorded, place_of}
 use Rattle.engine_model.specs.Contents.{ContentsInvariant}
 use Rattle.engine_model.specs.Schedule.{last_of, Each}
 use Rattle.engine_model.specs.Images.{CrashImage}

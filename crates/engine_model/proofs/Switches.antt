@@ -1,9 +1,10 @@
 -- A change of the version keeps every image fit, and ends in a state of the other version.
 use Rattle.std.proofs.Common.{◌≡◌, ◌≢◌, ◌⊎◌, inl, inr, ◌<◌, ℕ, Bool, true, false, not, ◌&&◌, ◌||◌, arith, refl, sym, ap, ◌∙◌, subst, List, [], map, Some, true≢false, eqb, eq-eqb, ne_eqb}
 use Rattle.std.proofs.lemmas.Bool.{cases_eq, and_parts, or_cases, false_from_ne_true}
-use Rattle.engine_model.specs.World.{Layout, World, Possible, Has}
+use Rattle.order_model.specs.World.{Layout, World, Possible, IsData}
+use Rattle.order_model.specs.Contents.{IsAmong}
 use Rattle.engine_model.specs.Counts.{Covered, CountsInvariant, Near}
-use Rattle.engine_model.specs.Entries.{IsData, IsPrint, IsTable, MayName, MayPrint, cached_count, cached_name, cached_names, cached_print, Apart}
+use Rattle.engine_model.specs.Entries.{IsPrint, IsTable, MayName, MayPrint, cached_count, cached_name, cached_names, cached_print, Apart}
 use Rattle.engine_model.specs.Contents.{ContentsInvariant, Last}
 use Rattle.engine_model.specs.Images.{ContentsFit, CountsFit, CrashImage}
 use Rattle.engine_model.specs.DeviceSteps.{Barrier, KeepsMarks, MovesMarks, Taken}
@@ -273,7 +274,7 @@ module _ (lay : Layout) (top : ℕ) (sound : Bool) (array : ℕ → List (List �
       reads sure finger prints = record {
         reads = λ l lt. record {
           unmapped = λ h. (contents.reads l lt).unmapped (image_name l 0 lt h);
-          mapped = λ p d h. let n = image_name l p lt h in subst (λ c. Has c (array l)) (sym (image_data p l d lt n)) ((contents.reads l lt).mapped p d n);
+          mapped = λ p d h. let n = image_name l p lt h in subst (λ c. IsAmong c (array l)) (sym (image_data p l d lt n)) ((contents.reads l lt).mapped p d n);
         };
         prints = λ s p print d h. prints p print s d h;
         well_formed = image_formed;
@@ -408,7 +409,7 @@ module _ (lay : Layout) (top : ℕ) (sound : Bool) (array : ℕ → List (List �
         named_data_stands = λ p d. record { named = λ l lt n. record { clean = (done _).0; fixed = (done _).1 }; printed = λ print n. absurd (no_print p print d n) };
         reads = λ l lt. record {
           unmapped = λ n. (contents.reads l lt).unmapped (new_name 0 l lt n);
-          mapped = λ p d n. subst (λ c. Has c (array l)) (sym (data_kept p d).newest) ((contents.reads l lt).mapped p d (new_name p l lt n));
+          mapped = λ p d n. subst (λ c. IsAmong c (array l)) (sym (data_kept p d).newest) ((contents.reads l lt).mapped p d (new_name p l lt n));
           cached_unmapped = λ n. (contents.reads l lt).cached_unmapped (sym (name l lt) ∙ n);
           cached_mapped = λ p d n. subst (λ c. Last (array l) c) (sym (data_kept p d).cached) ((contents.reads l lt).cached_mapped p d (sym (name l lt) ∙ n));
         };

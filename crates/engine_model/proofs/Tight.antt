@@ -1,8 +1,9 @@
 -- Each step keeps that nothing is wasted.
 use Rattle.std.proofs.Common.{◌≡◌, ◌≢◌, inl, inr, ◌+◌, ◌<◌, ℕ, true, arith, refl, sym, ap, ◌∙◌, subst, List, [], Option, Some, None, eqb, eq-zero-or-pos}
 use Rattle.std.proofs.lemmas.Bool.{cases_eq}
-use Rattle.engine_model.specs.World.{Layout, World, count_below, queued}
-use Rattle.engine_model.specs.Entries.{IsData, IsTable, cached_name, cached_count, cached_names, cached_print, Apart}
+use Rattle.order_model.specs.World.{Layout, World, queued, IsData}
+use Rattle.order_model.specs.Counting.{count_below}
+use Rattle.engine_model.specs.Entries.{IsTable, cached_name, cached_count, cached_names, cached_print, Apart}
 use Rattle.engine_model.specs.DeviceSteps.{AtRest}
 use Rattle.engine_model.specs.Corrections.{Corrected}
 use Rattle.engine_model.specs.Commands.{DataKept, Discarded, PageContent, Renamed}
@@ -155,7 +156,7 @@ start_tight lay w rest tight =
       owed = λ p d.
           let exact = tight.exact.counts p d in
           let same = count p in
-          let names : cached_names lay w p ≡ count_below lay.blocks (λ l. eqb (lay.name_in (w.newest (lay.map_page l)) l) p) =
+          let names : cached_names lay w p ≡ count_below (λ l. eqb (lay.name_in (w.newest (lay.map_page l)) l) p) lay.blocks =
           count_ext lay.blocks (λ l. eqb (cached_name lay w l) p) (λ l. eqb (lay.name_in (w.newest (lay.map_page l)) l) p) (λ l lt. ap (λ c. eqb (lay.name_in c l) p) (rest.cached _)) in
           let none : queued w.queue p ≡ 0 = ap (λ rs. queued rs p) rest.queue in
           omega arith;
@@ -189,7 +190,7 @@ module _ (lay : Layout) (top : ℕ) (m : Moment) (k : EngineInvariant lay top tr
           let owes = tight.owed p d in
           let none : queued m.world.queue p ≡ 0 = ap (λ rs. queued rs p) empty in
           let same = count_is p d in
-          let names : count_below lay.blocks (λ l. eqb (lay.name_in (image (lay.map_page l)) l) p) ≡ cached_names lay m.world p =
+          let names : count_below (λ l. eqb (lay.name_in (image (lay.map_page l)) l) p) lay.blocks ≡ cached_names lay m.world p =
           count_ext lay.blocks (λ l. eqb (lay.name_in (image (lay.map_page l)) l) p) (λ l. eqb (cached_name lay m.world l) p)
           (λ l lt. ap (λ c. eqb (lay.name_in c l) p) (table_is _ (inl (l, lt, refl)))) in
           omega arith;

@@ -1,6 +1,6 @@
 -- The tables' entries in two states that have the same pages.
 use Rattle.std.proofs.Common.{◌≡◌, ◌<◌, ℕ, List, Some, None, eqb, ap}
-use Rattle.engine_model.specs.World.{Layout, World}
+use Rattle.order_model.specs.World.{Layout, World}
 use Rattle.engine_model.specs.Entries.{cached_name, cached_count, cached_print, cached_names, newest_name, newest_count, newest_print}
 use Rattle.engine_model.proofs.Counting.{count_ext}
 

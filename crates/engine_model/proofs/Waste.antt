@@ -1,7 +1,7 @@
 -- Only a scan changes the waste of a page.
 use Rattle.std.proofs.Common.{◌≡◌, ℕ, Bool, arith, ap, ◌∙◌}
-use Rattle.engine_model.specs.World.{Layout, World, queued}
-use Rattle.engine_model.specs.Entries.{IsData, Apart}
+use Rattle.order_model.specs.World.{Layout, World, queued, IsData}
+use Rattle.engine_model.specs.Entries.{Apart}
 use Rattle.engine_model.specs.DeviceSteps.{Same}
 use Rattle.engine_model.specs.Scan.{CorrectsNothing, SameWaste}
 use Rattle.engine_model.specs.Schedule.{WriteAgain, DiscardAgain, BarrierDone, Correct, Discard, DropData, FlushDone, Fold, FoldZero, Unchanged, ReleaseApplied, Step, Write, WriteDone, WriteRefused, WriteTaken}

@@ -1,8 +1,10 @@
 -- Edits that bring what they are to bring keep the invariant whole.
 use Rattle.std.proofs.Common.{◌≡◌, ◌<◌, ℕ, Bool, sym, ap, ◌∙◌, []}
-use Rattle.engine_model.specs.World.{Agree, Layout}
-use Rattle.engine_model.specs.Entries.{IsData, cached_count, cached_name, cached_print}
-use Rattle.engine_model.specs.Births.{BirthKnown, IsSlot, Leads, Name, Print, Slot, cached_value, has_print}
+use Rattle.order_model.specs.World.{Agree, Layout, IsData}
+use Rattle.engine_model.specs.Entries.{cached_count, cached_name, cached_print}
+use Rattle.order_model.specs.declared.Slot.TheVariants.{Name, Print}
+use Rattle.order_model.specs.declared.Slot.{Slot}
+use Rattle.engine_model.specs.Births.{BirthKnown, IsSlot, Leads, cached_value, has_print}
 use Rattle.engine_model.specs.Pool.{PoolKnows}
 use Rattle.engine_model.specs.Invariant.{EngineInvariant, Moment, ToldBirths, ToldPool}
 use Rattle.engine_model.specs.Edits.{CacheOnly, ContentEdits, Edits}

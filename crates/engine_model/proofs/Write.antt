@@ -2,9 +2,10 @@
 use Rattle.std.proofs.Common.{◌≡◌, ◌≢◌, ◌⊎◌, inl, inr, ◌<◌, ℕ, true, false, eqb, sym, ap, ◌∙◌, List, Some, true≢false, eq-eqb, ne_eqb, eqb-true, le_trans, refl}
 use Rattle.engine_model.proofs.Stages.{mapped_from, queued_written, written_zero, written_stays, written_moves, written_one, written_from}
 use Rattle.std.proofs.lemmas.Bool.{false_from_ne_true, not_from_false, not-false, not-true, and_cases, cases_eq, and_parts, or_cases, or_parts, and_from, or_left, or_right}
-use Rattle.engine_model.specs.World.{Layout, World, Queued, queued, AtMost}
+use Rattle.order_model.specs.World.{Layout, World, Queued, queued, IsData}
+use Rattle.order_model.specs.Counting.{AtMost}
 use Rattle.engine_model.specs.Counts.{CountsInvariant, MarksAndEdges, Balanced, CoversNames, CoversPrints, OwesRelease, LostPrint, Covered, Near, Printed, NearPrinted}
-use Rattle.engine_model.specs.Entries.{MayName, MayPrint, HasEdge, NoEdge, IsData, cached_name, cached_count, cached_print, newest_count}
+use Rattle.engine_model.specs.Entries.{MayName, MayPrint, HasEdge, NoEdge, cached_name, cached_count, cached_print, newest_count}
 use Rattle.engine_model.proofs.Counting.{count_owed, owed}
 use Rattle.engine_model.proofs.Views.{name_same, count_same, print_same, names_same, newest_name_same, newest_count_same, newest_print_same}
 use Rattle.engine_model.specs.DeviceSteps.{Taken, KeepsMarks, MovesMarks, written_release}

@@ -1,9 +1,10 @@
 -- A write that the device took keeps the contents.
 use Rattle.std.proofs.Common.{◌≡◌, ◌≢◌, ◌⊎◌, inl, inr, ◌<◌, ℕ, Bool, true, false, arith, sym, ap, ◌∙◌, subst, List, Some, true≢false, eq-eqb, eqb}
 use Rattle.std.proofs.lemmas.Bool.{cases_eq, false_from_ne_true}
-use Rattle.engine_model.specs.World.{Layout, World, Has}
+use Rattle.order_model.specs.World.{Layout, World, IsData}
+use Rattle.order_model.specs.Contents.{IsAmong}
 use Rattle.engine_model.specs.Counts.{CountsInvariant}
-use Rattle.engine_model.specs.Entries.{MayName, MayPrint, HasEdge, IsData, cached_name, cached_count, cached_print, cached_names}
+use Rattle.engine_model.specs.Entries.{MayName, MayPrint, HasEdge, cached_name, cached_count, cached_print, cached_names}
 use Rattle.engine_model.specs.Contents.{ContentsInvariant, DataOrdered, NamedFixed, NamedStands, Last}
 use Rattle.engine_model.proofs.Named.{Kept, named_kept, named_parts, printed_kept}
 use Rattle.engine_model.proofs.Counting.{count_has}
@@ -133,9 +134,9 @@ module _ (lay : Layout) (top : ℕ) (sound : Bool) (array : ℕ → List (List �
       ];
       mapped = λ p d n.
           let s = stands_named p l lt d n in
-          subst (λ c. Has c (array l)) (sym (newest_there _ s.1.clean)) (elim (may_name p l n) [
+          subst (λ c. IsAmong c (array l)) (sym (newest_there _ s.1.clean)) (elim (may_name p l n) [
             | inl q ↦ (old.reads l lt).mapped p d q
-            | inr q ↦ subst (λ c. Has c (array l)) (sym ((old.fresh_data_first p d).clean s.1.clean)) (last_has _ _ ((old.reads l lt).cached_mapped p d q.1))
+            | inr q ↦ subst (λ c. IsAmong c (array l)) (sym ((old.fresh_data_first p d).clean s.1.clean)) (last_has _ _ ((old.reads l lt).cached_mapped p d q.1))
           ]);
       cached_unmapped = λ n. (old.reads l lt).cached_unmapped (sym (name l) ∙ n);
       cached_mapped = λ p d n. subst (λ c. Last (array l) c) (sym (t.cached (lay.data_page p))) ((old.reads l lt).cached_mapped p d (sym (name l) ∙ n));

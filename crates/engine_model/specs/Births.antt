@@ -1,69 +1,11 @@
--- What birth_marks is told, as a list of calls with the latest first, what it then answers, and what the calls say of the possible values of a slot.
+-- What the calls that birth_marks is told, the latest first, say of the possible values of a slot.
 use Rattle.std.specs.Prelude.{Bool, List, None, Option, Some, [], cond, eqb, false, not, true, ℕ, ◌&&◌, ◌<◌, ◌||◌, ◌∷◌, ◌≡◌, ◌⊎◌}
-use Rattle.engine_model.specs.World.{Layout, Possible, World}
-use Rattle.engine_model.specs.Entries.{IsData}
+use Rattle.order_model.specs.World.{IsData, Layout, Possible, World}
+use Rattle.order_model.specs.declared.Slot.{Slot}
+use Rattle.order_model.specs.declared.Slot.TheVariants.{Name, Print}
+use Rattle.order_model.specs.Calls.{Call, Change, Fixed, Tried, Written, is_changed, is_met, same_slot, since, value_left, wrote_last}
 
--- a block, whose value is its map entry, or a data page, whose value is 1 with a print and 0 without
-pub data Slot : Type 0 where
-  Name : ℕ → Slot
-  Print : ℕ → Slot
-
-pub data Call : Type 0 where
-  Change : Slot → (at from to : ℕ) → Call
-  Tried : ℕ → Call
-  Written : ℕ → Call
-  Fixed : Call
-
-abbrev pub same_slot : Slot → Slot → Bool
-same_slot (Name a) (Name b) = eqb a b
-same_slot (Name a) (Print b) = false
-same_slot (Print a) (Name b) = false
-same_slot (Print a) (Print b) = eqb a b
-
--- the page was written and not changed since
-abbrev pub wrote_last : ℕ → List Call → Bool
-wrote_last page [] = false
-wrote_last page (Change s at from to ∷ cs) = not (eqb at page) && wrote_last page cs
-wrote_last page (Tried at ∷ cs) = wrote_last page cs
-wrote_last page (Written at ∷ cs) = eqb at page || wrote_last page cs
-wrote_last page (Fixed ∷ cs) = wrote_last page cs
-
--- the calls since the page was last settled, that is at a barrier after a write of it with no change since
-abbrev pub since : ℕ → List Call → List Call
-since page [] = []
-since page (Change s at from to ∷ cs) = Change s at from to ∷ since page cs
-since page (Tried at ∷ cs) = Tried at ∷ since page cs
-since page (Written at ∷ cs) = Written at ∷ since page cs
-since page (Fixed ∷ cs) = cond (wrote_last page cs) [] (Fixed ∷ since page cs)
-
-abbrev pub is_changed : Slot → List Call → Bool
-is_changed slot [] = false
-is_changed slot (Change s at from to ∷ cs) = same_slot s slot || is_changed slot cs
-is_changed slot (Tried at ∷ cs) = is_changed slot cs
-is_changed slot (Written at ∷ cs) = is_changed slot cs
-is_changed slot (Fixed ∷ cs) = is_changed slot cs
-
--- what the last change of the slot left
-abbrev pub value_left : Slot → List Call → ℕ
-value_left slot [] = 0
-value_left slot (Change s at from to ∷ cs) = cond (same_slot s slot) to (value_left slot cs)
-value_left slot (Tried at ∷ cs) = value_left slot cs
-value_left slot (Written at ∷ cs) = value_left slot cs
-value_left slot (Fixed ∷ cs) = value_left slot cs
-
--- v was the slot's value before its first change among the calls, or at a try to write its page after that
-abbrev pub is_met : Slot → ℕ → ℕ → List Call → Bool
-is_met slot page v [] = false
-is_met slot page v (Change s at from to ∷ cs) = (same_slot s slot && (not (is_changed slot cs) && eqb from v)) || is_met slot page v cs
-is_met slot page v (Tried at ∷ cs) = (eqb at page && (is_changed slot cs && eqb (value_left slot cs) v)) || is_met slot page v cs
-is_met slot page v (Written at ∷ cs) = is_met slot page v cs
-is_met slot page v (Fixed ∷ cs) = is_met slot page v cs
-
--- the slot, which stands on the page, was changed since the page was settled, and v was its value neither then nor at a try since
-abbrev pub is_unborn : Slot → ℕ → ℕ → List Call → Bool
-is_unborn slot page v calls = is_changed slot (since page calls) && not (is_met slot page v (since page calls))
-
--- The same in words. The slot had the value x when its page was settled: what it has after the calls since then,
+-- The calls in words. The slot had the value x when its page was settled: what it has after the calls since then,
 abbrev pub value_after : Slot → ℕ → List Call → ℕ
 value_after slot x [] = x
 value_after slot x (Change s at from to ∷ cs) = cond (same_slot s slot) to (value_after slot x cs)

@@ -1,6 +1,6 @@
 -- The layout of a device's pages: where each entry stands, and how it is read from the bytes of its page.
 use Rattle.std.specs.Prelude.{◌++◌, ◌∷◌, length, replicate, Bool, List, None, Option, Some, cond, drop, eqb, get_or, set, take, ℕ, ◌%◌, ◌*◌, ◌+◌, ◌-◌, ◌/◌}
-use Rattle.engine_model.specs.World.{Layout}
+use Rattle.order_model.specs.World.{Layout}
 
 abbrev pub number_at : List ℕ → ℕ → ℕ
 number_at c i = get_or c i 0 + 256 * get_or c (i + 1) 0 + 65536 * get_or c (i + 2) 0 + 16777216 * get_or c (i + 3) 0

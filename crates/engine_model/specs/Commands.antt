@@ -1,8 +1,8 @@
 -- The edits of a write and of a discard, as plain facts on the entries that change.
 use Rattle.std.specs.Prelude.{List, Some, [], cond, false, true, ℕ, ◌++◌, ◌+◌, ◌<◌, ◌∷◌, ◌≡◌, ◌≢◌, ◌⊎◌}
-use Rattle.engine_model.specs.World.{Layout, World}
-use Rattle.engine_model.specs.Entries.{IsData, IsTable, cached_count, cached_name, cached_print}
-use Rattle.engine_model.specs.Paths.{Closes}
+use Rattle.order_model.specs.World.{Layout, World, IsData}
+use Rattle.engine_model.specs.Entries.{IsTable, cached_count, cached_name, cached_print}
+use Rattle.order_model.specs.Paths.{Closes}
 use Rattle.engine_model.specs.Known.{Known}
 use Rattle.engine_model.specs.Edits.{CacheOnly, NewEdges, Ordered}
 

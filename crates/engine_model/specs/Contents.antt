@@ -1,7 +1,8 @@
 -- The second group of the engine invariant: what is kept of contents. It rests on the first.
 use Rattle.std.specs.Prelude.{Bool, List, Some, [], false, true, ℕ, ◌<◌, ◌∷◌, ◌≡◌}
-use Rattle.engine_model.specs.World.{Has, Layout, Possible, World}
-use Rattle.engine_model.specs.Entries.{HasEdge, IsData, IsTable, MayName, MayPrint, cached_count, cached_name, cached_print}
+use Rattle.order_model.specs.Contents.{IsAmong}
+use Rattle.order_model.specs.World.{Layout, Possible, World, IsData}
+use Rattle.engine_model.specs.Entries.{HasEdge, IsTable, MayName, MayPrint, cached_count, cached_name, cached_print}
 
 -- c is the last of these
 abbrev pub Last : List (List ℕ) → List ℕ → Type 0
@@ -44,8 +45,8 @@ pub record NamedStands (lay : Layout) (w : World) (p : ℕ) : Type 0 where
 
 -- what a crash may leave of l is in its list, and the cache has the last of it
 pub record Reads (lay : Layout) (w : World) (array : ℕ → List (List ℕ)) (l : ℕ) : Type 0 where
-  pub unmapped : MayName lay w 0 l → Has lay.zero_block (array l)
-  pub mapped : (p : ℕ) → IsData lay p → MayName lay w p l → Has (w.newest (lay.data_page p)) (array l)
+  pub unmapped : MayName lay w 0 l → IsAmong lay.zero_block (array l)
+  pub mapped : (p : ℕ) → IsData lay p → MayName lay w p l → IsAmong (w.newest (lay.data_page p)) (array l)
   pub cached_unmapped : cached_name lay w l ≡ 0 → Last (array l) lay.zero_block
   pub cached_mapped : (p : ℕ) → IsData lay p → cached_name lay w l ≡ p → Last (array l) (w.cached (lay.data_page p))
 

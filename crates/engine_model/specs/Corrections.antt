@@ -1,7 +1,7 @@
 -- A correction by a scan.
 use Rattle.std.specs.Prelude.{List, None, Some, [], false, true, ℕ, ◌<◌, ◌≡◌, ◌≢◌, ◌⊎◌}
-use Rattle.engine_model.specs.World.{Layout, World}
-use Rattle.engine_model.specs.Entries.{IsData, NoEdge, cached_count, cached_name, cached_names, cached_print}
+use Rattle.order_model.specs.World.{Layout, World, IsData}
+use Rattle.engine_model.specs.Entries.{NoEdge, cached_count, cached_name, cached_names, cached_print}
 use Rattle.engine_model.specs.Edits.{CacheOnly, NewEdges}
 use Rattle.engine_model.specs.Commands.{NoPages}
 

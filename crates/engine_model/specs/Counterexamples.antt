@@ -1,7 +1,7 @@
 -- The contents' part of the invariant without two facts, and two states that show why they are needed.
 use Rattle.std.specs.Prelude.{Bool, List, None, Some, [], cond, eqb, false, get_or, true, ℕ, ◌<◌, ◌||◌, ◌∷◌, ◌≡◌}
-use Rattle.engine_model.specs.World.{Layout, Possible, World}
-use Rattle.engine_model.specs.Entries.{HasEdge, IsData, MayName, MayPrint, cached_count, cached_name, cached_print}
+use Rattle.order_model.specs.World.{Layout, Possible, World, IsData}
+use Rattle.engine_model.specs.Entries.{HasEdge, MayName, MayPrint, cached_count, cached_name, cached_print}
 use Rattle.engine_model.specs.Contents.{PrintsTrue, Reads, WellFormed}
 
 pub record WeakOrdered (lay : Layout) (w : World) (p : ℕ) : Type 0 where

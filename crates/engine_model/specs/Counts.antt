@@ -1,8 +1,9 @@
 -- The first group of the engine invariant: marks, edges, counts, names, prints and releases.
 use Rattle.std.specs.Prelude.{List, Some, false, true, ℕ, ◌+◌, ◌<◌, ◌≡◌, ◌≤◌, ◌⊎◌}
-use Rattle.engine_model.specs.World.{AtMost, Layout, Possible, Queued, World, queued}
-use Rattle.engine_model.specs.Entries.{EdgeKind, HasEdge, IsData, IsTable, MayName, MayPrint, NoEdge, cached_count, cached_name, cached_names, cached_print, newest_count, newest_name, newest_print}
-use Rattle.engine_model.specs.Paths.{IsAcyclic}
+use Rattle.order_model.specs.Counting.{AtMost}
+use Rattle.order_model.specs.World.{Layout, Possible, Queued, World, queued, IsData}
+use Rattle.engine_model.specs.Entries.{EdgeKind, HasEdge, IsTable, MayName, MayPrint, NoEdge, cached_count, cached_name, cached_names, cached_print, newest_count, newest_name, newest_print}
+use Rattle.order_model.specs.Paths.{IsAcyclic}
 
 -- l may come to name p on the device with no write of p's count page before
 abbrev pub Covered : Layout → World → ℕ → ℕ → Type 0

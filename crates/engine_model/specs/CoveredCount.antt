@@ -1,6 +1,6 @@
 -- The blocks that may come to name a page, as a test, so that they can be counted.
 use Rattle.std.specs.Prelude.{Bool, List, [], eqb, false, not, ℕ, ◌&&◌, ◌||◌, ◌∷◌}
-use Rattle.engine_model.specs.World.{Layout, World}
+use Rattle.order_model.specs.World.{Layout, World}
 use Rattle.engine_model.specs.Entries.{cached_name}
 
 -- one of these contents names p at l

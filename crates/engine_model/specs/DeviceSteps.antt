@@ -1,6 +1,6 @@
 -- The steps of the device, as relations between the state before and the state after: each field says one fact of one kind.
 use Rattle.std.specs.Prelude.{◌++◌, ◌∷◌, List, [], cond, eqb, false, map, not, true, ℕ, ◌&&◌, ◌||◌, ◌≡◌, ◌≢◌, ◌⊎◌}
-use Rattle.engine_model.specs.World.{Layout, Possible, Release, World}
+use Rattle.order_model.specs.World.{Layout, Possible, Release, World}
 
 -- nothing is pending and nothing is edited: a device that was just mounted, or flushed
 pub record AtRest (w : World) : Type 0 where

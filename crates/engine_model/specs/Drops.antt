@@ -1,7 +1,7 @@
 -- A data page whose dirty content is given up.
 use Rattle.std.specs.Prelude.{List, false, ℕ, ◌≡◌, ◌≢◌}
-use Rattle.engine_model.specs.World.{Layout, Possible, World}
-use Rattle.engine_model.specs.Entries.{IsData, cached_count}
+use Rattle.order_model.specs.World.{Layout, Possible, World, IsData}
+use Rattle.engine_model.specs.Entries.{cached_count}
 
 -- the dirty mark of a data page with count 0 goes, with its edges and its content
 pub record Dropped (lay : Layout) (w v : World) (p : ℕ) : Type 0 where

@@ -1,8 +1,8 @@
 -- Edits of the cache in general: what each edit leaves as it is, and what it has to bring with it.
 use Rattle.std.specs.Prelude.{Bool, List, Some, [], false, true, ℕ, ◌++◌, ◌+◌, ◌<◌, ◌∷◌, ◌≡◌, ◌≤◌, ◌⊎◌}
-use Rattle.engine_model.specs.World.{Layout, Possible, Queued, World, queued}
-use Rattle.engine_model.specs.Entries.{EdgeKind, HasEdge, IsData, IsTable, MayName, MayPrint, cached_count, cached_name, cached_names, cached_print}
-use Rattle.engine_model.specs.Paths.{IsAcyclic}
+use Rattle.order_model.specs.World.{Layout, Possible, Queued, World, queued, IsData}
+use Rattle.engine_model.specs.Entries.{EdgeKind, HasEdge, IsTable, MayName, MayPrint, cached_count, cached_name, cached_names, cached_print}
+use Rattle.order_model.specs.Paths.{IsAcyclic}
 use Rattle.engine_model.specs.Contents.{Last}
 use Rattle.engine_model.specs.Known.{Free}
 

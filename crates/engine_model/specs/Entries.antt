@@ -1,10 +1,7 @@
 -- The entries of the tables: which page serves what, and what a state holds of names, counts and prints in the cache, on the device as it is read, and in what a crash may leave.
 use Rattle.std.specs.Prelude.{List, Option, Some, eqb, false, true, ℕ, ◌<◌, ◌≡◌, ◌≢◌, ◌≤◌, ◌⊎◌}
-use Rattle.engine_model.specs.World.{Layout, Possible, World, count_below}
-
--- p is a data page's number
-abbrev pub IsData : Layout → ℕ → Type 0
-IsData lay p = (0 < p) × (p ≤ lay.pages)
+use Rattle.order_model.specs.World.{IsData, Layout, Possible, World}
+use Rattle.order_model.specs.Counting.{count_below}
 
 -- the page holds a table's entries
 abbrev pub IsTable : Layout → ℕ → Type 0
@@ -49,7 +46,7 @@ newest_print lay w p = lay.print_in (w.newest (lay.print_page p)) p
 
 -- how many blocks name p in the cache
 abbrev pub cached_names : Layout → World → ℕ → ℕ
-cached_names lay w p = count_below lay.blocks (λ l. eqb (cached_name lay w l) p)
+cached_names lay w p = count_below (λ l. eqb (cached_name lay w l) p) lay.blocks
 
 -- a possible content of l's map page names p at l
 pub record MayName (lay : Layout) (w : World) (p l : ℕ) : Type 0 where

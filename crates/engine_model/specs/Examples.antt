@@ -1,6 +1,6 @@
 -- Small states that meet the steps: one block and one data page.
 use Rattle.std.specs.Prelude.{Bool, List, None, Some, [], cond, drop, eqb, false, get_or, true, ℕ, ◌&&◌, ◌||◌, ◌∷◌}
-use Rattle.engine_model.specs.World.{Layout, Release, World}
+use Rattle.order_model.specs.World.{Layout, Release, World}
 use Rattle.engine_model.specs.Known.{Known}
 
 -- one block and one data page, with prints

@@ -1,7 +1,9 @@
 -- What a crash leaves, and when it is fit to be mounted.
 use Rattle.std.specs.Prelude.{Bool, List, None, Some, cond, eqb, true, ℕ, ◌<◌, ◌≡◌, ◌≢◌, ◌≤◌, ◌⊎◌}
-use Rattle.engine_model.specs.World.{Has, Layout, Possible, World, count_below}
-use Rattle.engine_model.specs.Entries.{IsData, IsTable}
+use Rattle.order_model.specs.Contents.{IsAmong}
+use Rattle.order_model.specs.World.{Layout, Possible, World, IsData}
+use Rattle.order_model.specs.Counting.{count_below}
+use Rattle.engine_model.specs.Entries.{IsTable}
 
 -- a crash may leave this content at each page
 abbrev pub CrashImage : World → (ℕ → List ℕ) → Type 0
@@ -10,14 +12,14 @@ CrashImage w image = (page : ℕ) → Possible w page (image page)
 -- no count is below the names, and a print stands only on a count of at least 1
 pub record CountsFit (lay : Layout) (image : ℕ → List ℕ) : Type 0 where
   pub names : (p : ℕ) → IsData lay p
-      → count_below lay.blocks (λ l. eqb (lay.name_in (image (lay.map_page l)) l) p) ≤ lay.count_in (image (lay.count_page p)) p
+      → count_below (λ l. eqb (lay.name_in (image (lay.map_page l)) l) p) lay.blocks ≤ lay.count_in (image (lay.count_page p)) p
   pub prints : (p : ℕ) (print : List ℕ) → IsData lay p
       → lay.print_in (image (lay.print_page p)) p ≡ Some print → 0 < lay.count_in (image (lay.count_page p)) p
 
 -- each block reads a content of its list
 pub record ReadsAllowed (lay : Layout) (image : ℕ → List ℕ) (array : ℕ → List (List ℕ)) (l : ℕ) : Type 0 where
-  pub unmapped : lay.name_in (image (lay.map_page l)) l ≡ 0 → Has lay.zero_block (array l)
-  pub mapped : (p : ℕ) → IsData lay p → lay.name_in (image (lay.map_page l)) l ≡ p → Has (image (lay.data_page p)) (array l)
+  pub unmapped : lay.name_in (image (lay.map_page l)) l ≡ 0 → IsAmong lay.zero_block (array l)
+  pub mapped : (p : ℕ) → IsData lay p → lay.name_in (image (lay.map_page l)) l ≡ p → IsAmong (image (lay.data_page p)) (array l)
 
 pub record ContentsFit (lay : Layout) (sound : Bool) (image : ℕ → List ℕ) (array : ℕ → List (List ℕ)) : Type 0 where
   pub reads : (l : ℕ) → l < lay.blocks → ReadsAllowed lay image array l
@@ -42,7 +44,7 @@ CountsBelow lay top image = (p : ℕ) → IsData lay p → lay.count_in (image (
 -- each count is its names, and exactly the named pages have a print
 pub record CountsExact (lay : Layout) (image : ℕ → List ℕ) : Type 0 where
   pub counts : (p : ℕ) → IsData lay p
-      → lay.count_in (image (lay.count_page p)) p ≡ count_below lay.blocks (λ l. eqb (lay.name_in (image (lay.map_page l)) l) p)
+      → lay.count_in (image (lay.count_page p)) p ≡ count_below (λ l. eqb (lay.name_in (image (lay.map_page l)) l) p) lay.blocks
   pub named : (p : ℕ) → IsData lay p → 0 < lay.count_in (image (lay.count_page p)) p
       → (print : List ℕ) × (lay.print_in (image (lay.print_page p)) p ≡ Some print)
   pub unnamed : (p : ℕ) → IsData lay p → lay.count_in (image (lay.count_page p)) p ≡ 0

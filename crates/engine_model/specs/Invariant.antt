@@ -1,12 +1,16 @@
 -- The engine invariant whole: a state, the contents that each block may read, and what birth_marks and the pool were told.
 use Rattle.std.specs.Prelude.{Bool, true, List, ℕ, ◌<◌, ◌≡◌, ◌⊎◌}
-use Rattle.engine_model.specs.World.{Agree, Layout, World}
-use Rattle.engine_model.specs.Entries.{IsData, cached_count}
+use Rattle.order_model.specs.World.{Agree, Layout, World, IsData}
+use Rattle.engine_model.specs.Entries.{cached_count}
 use Rattle.engine_model.specs.Counts.{CountsInvariant}
 use Rattle.engine_model.specs.Contents.{ContentsInvariant}
 use Rattle.engine_model.specs.Known.{Known}
-use Rattle.engine_model.specs.Births.{AllDirty, BirthKnown, Call, Edit, IsSlot, Leads, Name, Print, Slot, cached_value, is_unborn, told}
-use Rattle.engine_model.specs.Pool.{PoolKnows, Told, after_take, after_zeroed, is_free}
+use Rattle.order_model.specs.Calls.{Call, is_unborn}
+use Rattle.order_model.specs.declared.Slot.TheVariants.{Name, Print}
+use Rattle.order_model.specs.declared.Slot.{Slot}
+use Rattle.engine_model.specs.Births.{AllDirty, BirthKnown, Edit, IsSlot, Leads, cached_value, told}
+use Rattle.order_model.specs.Pool.{Told, after_take, after_zeroed, is_free}
+use Rattle.engine_model.specs.Pool.{PoolKnows}
 
 -- the array has for each block the contents that may be read of it after a crash, the last one at the end; the calls have the latest first
 pub record Moment : Type 0 where

@@ -1,7 +1,7 @@
 -- What the store asks birth_marks and the pool, and what each answer has to mean.
 use Rattle.std.specs.Prelude.{Bool, List, true, ℕ, ◌<◌, ◌≡◌}
-use Rattle.engine_model.specs.World.{Layout, Possible, World}
-use Rattle.engine_model.specs.Entries.{IsData, MayName, MayPrint, cached_count}
+use Rattle.order_model.specs.World.{Layout, Possible, World, IsData}
+use Rattle.engine_model.specs.Entries.{MayName, MayPrint, cached_count}
 
 -- the answers of this moment
 pub record Known : Type 0 where

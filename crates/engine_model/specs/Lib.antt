@@ -1,7 +1,5 @@
--- The definitions, from the plain state up to whole runs; the last files hold concrete states.
-pub mod World
+-- The definitions over the plain state of order_model, up to whole runs; the last files hold concrete states.
 pub mod Entries
-pub mod Paths
 pub mod Counts
 pub mod Contents
 pub mod Known

@@ -1,6 +1,6 @@
 -- Two blocks and two data pages of equal content: a fold gives the second block the first page, and a copy gives a block the name of the other's page.
 use Rattle.std.specs.Prelude.{◌-◌, ◌+◌, [], ◌∷◌, true, false, cond, ◌&&◌, ◌||◌, Some, None, eqb, get_or}
-use Rattle.engine_model.specs.World.{Layout, Release, World}
+use Rattle.order_model.specs.World.{Layout, Release, World}
 
 -- the map is page 1, the counts are page 2, the prints page 3, the data pages 4 and 5
 abbrev pub pair : Layout

@@ -1,6 +1,6 @@
 -- A pass over the queue, as a list of steps.
 use Rattle.std.specs.Prelude.{List, [], ℕ, ◌++◌, ◌∷◌, ◌≡◌, ◌⊎◌}
-use Rattle.engine_model.specs.World.{Agree, Layout, Release}
+use Rattle.order_model.specs.World.{Agree, Layout, Release}
 use Rattle.engine_model.specs.Invariant.{Moment, ToldBirths, ToldZero, known_at}
 use Rattle.engine_model.specs.DeviceSteps.{Same}
 use Rattle.engine_model.specs.Commands.{DataKept}

@@ -1,8 +1,8 @@
 -- An applied release: the edges that it needs, when it is blocked, and what it changes.
 use Rattle.std.specs.Prelude.{List, None, Some, false, true, ℕ, ◌++◌, ◌+◌, ◌<◌, ◌∷◌, ◌≡◌, ◌≢◌, ◌⊎◌}
-use Rattle.engine_model.specs.World.{Layout, Release, World}
-use Rattle.engine_model.specs.Entries.{IsData, cached_count, cached_name, cached_print}
-use Rattle.engine_model.specs.Paths.{Closes}
+use Rattle.order_model.specs.World.{Layout, Release, World, IsData}
+use Rattle.engine_model.specs.Entries.{cached_count, cached_name, cached_print}
+use Rattle.order_model.specs.Paths.{Closes}
 use Rattle.engine_model.specs.Known.{Known}
 use Rattle.engine_model.specs.Edits.{CacheOnly, NewEdges}
 

@@ -1,6 +1,6 @@
 -- A scan over the data pages, as a list of steps.
 use Rattle.std.specs.Prelude.{List, [], false, ℕ, ◌+◌, ◌∷◌, ◌≡◌, ◌⊎◌}
-use Rattle.engine_model.specs.World.{Agree, Layout, World, queued}
+use Rattle.order_model.specs.World.{Agree, Layout, World, queued}
 use Rattle.engine_model.specs.Entries.{IsTable, cached_count, cached_names}
 use Rattle.engine_model.specs.Invariant.{Moment, ToldBirths, ToldZero}
 use Rattle.engine_model.specs.Commands.{DataKept}

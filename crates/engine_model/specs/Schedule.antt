@@ -1,10 +1,10 @@
 -- Whole schedules: from one moment to the next, by every kind of step.
 use Rattle.std.specs.Prelude.{List, [], cond, eqb, false, ℕ, ◌++◌, ◌<◌, ◌∷◌, ◌≡◌}
-use Rattle.engine_model.specs.World.{Agree, Layout, Release}
-use Rattle.engine_model.specs.Entries.{IsData, cached_name}
+use Rattle.order_model.specs.World.{Agree, Layout, Release, IsData}
+use Rattle.engine_model.specs.Entries.{cached_name}
 use Rattle.engine_model.specs.Contents.{Last}
-use Rattle.engine_model.specs.Births.{Fixed, Tried, Written}
-use Rattle.engine_model.specs.Pool.{after_fixed, after_tried, after_written}
+use Rattle.order_model.specs.Calls.{Fixed, Tried, Written}
+use Rattle.order_model.specs.Pool.{after_fixed, after_tried, after_written}
 use Rattle.engine_model.specs.Invariant.{Moment, ToldBirths, ToldTake, ToldZero, known_at}
 use Rattle.engine_model.specs.DeviceSteps.{Barrier, KeepsMarks, MovesMarks, Same, Taken}
 use Rattle.engine_model.specs.Commands.{DataKept, Discarded, Gains, PageContent, Renamed}

@@ -1,8 +1,9 @@
 -- A session in small: a block is written and discarded, so that its name and its print are never born, and the page is free again.
 use Rattle.std.specs.Prelude.{List, [], cond, eqb, false, ℕ, ◌&&◌, ◌||◌, ◌∷◌}
-use Rattle.engine_model.specs.World.{Release, World}
-use Rattle.engine_model.specs.Births.{Edit, Name, Print, told}
-use Rattle.engine_model.specs.Pool.{Told, after_fixed, after_take, after_zeroed, new_pool, taken_all, written_all}
+use Rattle.order_model.specs.World.{Release, World}
+use Rattle.order_model.specs.declared.Slot.TheVariants.{Name, Print}
+use Rattle.engine_model.specs.Births.{Edit, told}
+use Rattle.order_model.specs.Pool.{Told, after_fixed, after_take, after_zeroed, new_pool, taken_all, written_all}
 use Rattle.engine_model.specs.Invariant.{Moment}
 use Rattle.engine_model.specs.Examples.{empty, empty_array, printed, written, written_array}
 

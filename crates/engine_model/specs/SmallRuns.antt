@@ -1,11 +1,12 @@
 -- The small steps as steps of moments, and runs in which a command falls into them, so that a device call, a fault or a crash may come between any two of them.
 use Rattle.std.specs.Prelude.{◌≡◌, ◌⊎◌, ◌++◌, ℕ, List, [], ◌∷◌, true}
-use Rattle.engine_model.specs.World.{Layout, Release, World}
-use Rattle.engine_model.specs.Entries.{EdgeKind, IsData, IsTable, cached_count}
-use Rattle.engine_model.specs.Paths.{Closes}
+use Rattle.order_model.specs.World.{Layout, Release, World, IsData}
+use Rattle.engine_model.specs.Entries.{EdgeKind, IsTable, cached_count}
+use Rattle.order_model.specs.Paths.{Closes}
 use Rattle.engine_model.specs.Known.{Free}
-use Rattle.engine_model.specs.Births.{Change, Fixed, Name, Print, Tried, Written}
-use Rattle.engine_model.specs.Pool.{Told, after_fixed, after_tried, after_written}
+use Rattle.order_model.specs.Calls.{Change, Fixed, Tried, Written}
+use Rattle.order_model.specs.declared.Slot.TheVariants.{Name, Print}
+use Rattle.order_model.specs.Pool.{Told, after_fixed, after_tried, after_written}
 use Rattle.engine_model.specs.Invariant.{Moment, ToldTake, ToldZero, known_at}
 use Rattle.engine_model.specs.DeviceSteps.{barrier_made, page_taken, page_written}
 use Rattle.engine_model.specs.SmallSteps.{CanClear, CanLower, CanName, CanPrint, CanRaise, CanRecount, GainsOrHolds, given_up, held_by, lowered, named, ordered, ordered_by_barrier, placed, put, touched}

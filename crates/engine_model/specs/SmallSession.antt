@@ -1,7 +1,8 @@
 -- The session in small by small steps: a block is written to the fresh page and discarded, and the page's print is cleared and its count lowered, with no write of a page between.
 use Rattle.std.specs.Prelude.{List, [], ◌∷◌}
-use Rattle.engine_model.specs.Births.{Change, Name, Print}
-use Rattle.engine_model.specs.Pool.{after_take, after_zeroed}
+use Rattle.order_model.specs.Calls.{Change}
+use Rattle.order_model.specs.declared.Slot.TheVariants.{Name, Print}
+use Rattle.order_model.specs.Pool.{after_take, after_zeroed}
 use Rattle.engine_model.specs.Invariant.{Moment, known_at}
 use Rattle.engine_model.specs.SmallSteps.{given_up, lowered, named, ordered, placed, put, touched}
 use Rattle.engine_model.specs.Examples.{printed, written_array}

@@ -1,7 +1,7 @@
 -- The small steps into which a command falls, as functions of the plain state, and what each of them asks. No device call lies between those of one command.
 use Rattle.std.specs.Prelude.{◌≡◌, ◌≢◌, ◌⊎◌, ◌+◌, ◌<◌, ◌≤◌, not, ◌&&◌, ◌||◌, ◌++◌, ℕ, List, [], ◌∷◌, true, cond, eqb, Option, Some, None}
-use Rattle.engine_model.specs.World.{Agree, Layout, Possible, Release, World, queued}
-use Rattle.engine_model.specs.Entries.{IsData, cached_count, cached_name, cached_names, cached_print}
+use Rattle.order_model.specs.World.{Agree, Layout, Possible, Release, World, queued, IsData}
+use Rattle.engine_model.specs.Entries.{cached_count, cached_name, cached_names, cached_print}
 use Rattle.engine_model.specs.Contents.{Last}
 use Rattle.engine_model.specs.Known.{Known}
 use Rattle.engine_model.specs.Edits.{Ordered}

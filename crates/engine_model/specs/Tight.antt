@@ -1,7 +1,7 @@
 -- No waste: each count is owed, each counted page has a print, and no two of them have the same content.
 use Rattle.std.specs.Prelude.{List, Some, ℕ, ◌+◌, ◌<◌, ◌≡◌, ◌≢◌}
-use Rattle.engine_model.specs.World.{Layout, World, queued}
-use Rattle.engine_model.specs.Entries.{IsData, cached_count, cached_names, cached_print}
+use Rattle.order_model.specs.World.{Layout, World, queued, IsData}
+use Rattle.engine_model.specs.Entries.{cached_count, cached_names, cached_print}
 use Rattle.engine_model.specs.Invariant.{Moment}
 use Rattle.engine_model.specs.Schedule.{Fold, Step, Write}
 

@@ -1,9 +1,9 @@
 -- The change of a version in place: the print pages are cleared, and then the first page is written anew. It has an invariant of its own.
 use Rattle.std.specs.Prelude.{Bool, List, None, [], false, true, ℕ, ◌∷◌, ◌≡◌, ◌≢◌, ◌⊎◌}
-use Rattle.engine_model.specs.World.{Agree, Layout, Possible, World}
-use Rattle.engine_model.specs.Entries.{IsData, IsPrint}
-use Rattle.engine_model.specs.Births.{Fixed, Tried, Written}
-use Rattle.engine_model.specs.Pool.{after_fixed, after_tried, after_written}
+use Rattle.order_model.specs.World.{Agree, Layout, Possible, World, IsData}
+use Rattle.engine_model.specs.Entries.{IsPrint}
+use Rattle.order_model.specs.Calls.{Fixed, Tried, Written}
+use Rattle.order_model.specs.Pool.{after_fixed, after_tried, after_written}
 use Rattle.engine_model.specs.Invariant.{EngineInvariant, Moment}
 use Rattle.engine_model.specs.DeviceSteps.{Barrier, KeepsMarks, MovesMarks, Same, Taken}
 use Rattle.engine_model.specs.Images.{ContentsFit, CountsFit}

@@ -2,15 +2,18 @@
 //! the Barrier edges, and moves stage 1 to stage 2.
 
 ghost use Rattle.std.specs.Prelude.{◌≡◌, ◌∷◌, ℕ, List, Bool};
-ghost use Rattle.engine_model.specs.Births.{BirthKnown, Call, Fixed, Slot};
+ghost use Rattle.order_model.specs.Calls.{Call, Fixed};
+ghost use Rattle.order_model.specs.declared.Slot.{Slot};
+ghost use Rattle.engine_model.specs.Births.{BirthKnown};
 ghost use Rattle.engine_model.specs.Contents.{ContentsInvariant};
 ghost use Rattle.engine_model.specs.Counts.{CountsInvariant};
 ghost use Rattle.engine_model.specs.DeviceSteps.{Barrier, barrier_made};
 ghost use Rattle.engine_model.specs.Entries.{Apart};
 ghost use Rattle.engine_model.specs.Invariant.{EngineInvariant, Moment};
-ghost use Rattle.engine_model.specs.Pool.{PoolExact, PoolKnows, Told, after_fixed};
+ghost use Rattle.order_model.specs.Pool.{Told, after_fixed};
+ghost use Rattle.engine_model.specs.Pool.{PoolExact, PoolKnows};
 ghost use Rattle.engine_model.specs.SmallRuns.{with_barrier};
-ghost use Rattle.engine_model.specs.World.{Agree, Layout, World};
+ghost use Rattle.order_model.specs.World.{Agree, Layout, World};
 
 /// A barrier that ended done keeps each part of the invariant.
 pub fn barrier()

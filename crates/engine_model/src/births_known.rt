@@ -1,13 +1,15 @@
 //! What birth_marks records accounts for each possible value of a slot.
 
 ghost use Rattle.std.specs.Prelude.{◌≡◌, ◌≢◌, ◌↔◌, ◌<◌, ℕ, List, Bool, true};
-ghost use Rattle.engine_model.specs.Births.{BirthKnown, Call, GoesOn, NothingRecorded, Slot, TriedWith, is_changed, is_unborn, place_of, since, value_in};
+ghost use Rattle.order_model.specs.Calls.{Call, is_changed, is_unborn, since};
+ghost use Rattle.order_model.specs.declared.Slot.{Slot};
+ghost use Rattle.engine_model.specs.Births.{BirthKnown, GoesOn, NothingRecorded, TriedWith, place_of, value_in};
 ghost use Rattle.engine_model.specs.Contents.{ContentsInvariant};
-ghost use Rattle.engine_model.specs.Entries.{IsData, MayName, MayPrint};
+ghost use Rattle.order_model.specs.World.{IsData, Layout, Possible, World};
+ghost use Rattle.engine_model.specs.Entries.{MayName, MayPrint};
 ghost use Rattle.engine_model.specs.Invariant.{EngineInvariant, Moment, known_at};
 ghost use Rattle.engine_model.specs.Known.{Tells};
 ghost use Rattle.engine_model.specs.Schedule.{NoNode};
-ghost use Rattle.engine_model.specs.World.{Layout, Possible, World};
 
 /// A value that is unborn by the calls is in no possible content. In words: the slot was changed since its page was
 /// settled, and had the value neither then nor at a try since. Where no page is a node nothing is recorded.

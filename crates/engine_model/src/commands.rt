@@ -4,11 +4,11 @@ ghost use Rattle.std.specs.Prelude.{◌≡◌, ◌<◌, ℕ, List, Bool};
 ghost use Rattle.engine_model.specs.Commands.{DataKept, Discarded, Gains, PageContent, Renamed};
 ghost use Rattle.engine_model.specs.Contents.{ContentsInvariant, Last};
 ghost use Rattle.engine_model.specs.Counts.{CountsInvariant};
-ghost use Rattle.engine_model.specs.Entries.{Apart, IsData, cached_name};
+ghost use Rattle.order_model.specs.World.{IsData, Layout, World};
+ghost use Rattle.engine_model.specs.Entries.{Apart, cached_name};
 ghost use Rattle.engine_model.specs.Invariant.{EngineInvariant, Moment};
 ghost use Rattle.engine_model.specs.Known.{Known, Tells};
 ghost use Rattle.engine_model.specs.Schedule.{Step};
-ghost use Rattle.engine_model.specs.World.{Layout, World};
 
 /// A block takes the name of a fresh page or of one that holds the content already: a write.
 pub fn written()

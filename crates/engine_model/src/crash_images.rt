@@ -5,7 +5,7 @@ ghost use Rattle.engine_model.specs.Contents.{ContentsInvariant};
 ghost use Rattle.engine_model.specs.Counts.{CountsInvariant};
 ghost use Rattle.engine_model.specs.Images.{ContentsFit, CountsFit, CrashImage};
 ghost use Rattle.engine_model.specs.Invariant.{EngineInvariant, Moment};
-ghost use Rattle.engine_model.specs.World.{Layout, World};
+ghost use Rattle.order_model.specs.World.{Layout, World};
 
 /// In every image counts cover names, prints stand on counts, each block reads a content of its list, and prints
 /// are true where the session began sound.

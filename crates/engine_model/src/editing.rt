@@ -1,14 +1,17 @@
 //! Edits of the cache: every command, release and correction is an instance.
 
 ghost use Rattle.std.specs.Prelude.{◌≡◌, ◌≢◌, ◌<◌, ℕ, List, Bool};
-ghost use Rattle.engine_model.specs.Births.{AllDirty, BirthKnown, Call, Edit, Leads, Slot, cached_value, told};
+ghost use Rattle.order_model.specs.Calls.{Call};
+ghost use Rattle.order_model.specs.declared.Slot.{Slot};
+ghost use Rattle.engine_model.specs.Births.{AllDirty, BirthKnown, Edit, Leads, cached_value, told};
 ghost use Rattle.engine_model.specs.Contents.{ContentsInvariant};
 ghost use Rattle.engine_model.specs.Counts.{CountsInvariant};
 ghost use Rattle.engine_model.specs.Edits.{CacheOnly, ContentEdits, Edits, Grown};
-ghost use Rattle.engine_model.specs.Entries.{IsData, cached_count};
+ghost use Rattle.order_model.specs.World.{IsData, Layout, World};
+ghost use Rattle.engine_model.specs.Entries.{cached_count};
 ghost use Rattle.engine_model.specs.Invariant.{EngineInvariant, Moment, ToldBirths, ToldPool};
-ghost use Rattle.engine_model.specs.Pool.{PoolExact, PoolKnows, PossibleStays, Told, after_take, after_zeroed};
-ghost use Rattle.engine_model.specs.World.{Layout, World};
+ghost use Rattle.order_model.specs.Pool.{Told, after_take, after_zeroed};
+ghost use Rattle.engine_model.specs.Pool.{PoolExact, PoolKnows, PossibleStays};
 
 /// Edits that bring their edges and releases keep each part of the invariant.
 pub fn edits()

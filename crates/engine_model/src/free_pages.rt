@@ -1,11 +1,11 @@
 //! A page that the pool gives has count 0 in the cache and in every possible content of its count page.
 
 ghost use Rattle.std.specs.Prelude.{◌≡◌, ℕ, Bool, true};
-ghost use Rattle.engine_model.specs.Entries.{IsData};
+ghost use Rattle.order_model.specs.World.{IsData, Layout, World};
 ghost use Rattle.engine_model.specs.Invariant.{EngineInvariant, Moment};
 ghost use Rattle.engine_model.specs.Known.{Free};
-ghost use Rattle.engine_model.specs.Pool.{IsLowest, PoolExact, PoolKnows, Told, is_free};
-ghost use Rattle.engine_model.specs.World.{Layout, World};
+ghost use Rattle.order_model.specs.Pool.{IsLowest, Told, is_free};
+ghost use Rattle.engine_model.specs.Pool.{PoolExact, PoolKnows};
 
 /// What the pool gives is free, and as long as no write of a count page failed it gives every page that is free.
 pub fn free()

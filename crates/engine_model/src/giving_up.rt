@@ -1,14 +1,17 @@
 //! The dirty content of a data page with count 0 is given up, with its edges.
 
 ghost use Rattle.std.specs.Prelude.{◌≡◌, ℕ, List, Bool};
-ghost use Rattle.engine_model.specs.Births.{BirthKnown, Call, IsSlot, Slot};
+ghost use Rattle.order_model.specs.Calls.{Call};
+ghost use Rattle.order_model.specs.declared.Slot.{Slot};
+ghost use Rattle.engine_model.specs.Births.{BirthKnown, IsSlot};
 ghost use Rattle.engine_model.specs.Contents.{ContentsInvariant};
 ghost use Rattle.engine_model.specs.Counts.{CountsInvariant};
 ghost use Rattle.engine_model.specs.Drops.{Dropped};
-ghost use Rattle.engine_model.specs.Entries.{Apart, IsData, cached_count};
-ghost use Rattle.engine_model.specs.Pool.{PoolKnows, Told};
+ghost use Rattle.order_model.specs.World.{IsData, Layout, World};
+ghost use Rattle.engine_model.specs.Entries.{Apart, cached_count};
+ghost use Rattle.order_model.specs.Pool.{Told};
+ghost use Rattle.engine_model.specs.Pool.{PoolKnows};
 ghost use Rattle.engine_model.specs.SmallSteps.{given_up};
-ghost use Rattle.engine_model.specs.World.{Layout, World};
 
 /// A dropped data page keeps the invariant.
 pub fn dropped()

@@ -8,7 +8,7 @@ ghost use Rattle.engine_model.specs.Images.{CrashImage, ImageTight};
 ghost use Rattle.engine_model.specs.Invariant.{EngineInvariant, Moment};
 ghost use Rattle.engine_model.specs.Schedule.{NoNode, Step};
 ghost use Rattle.engine_model.specs.Tight.{ChoosesWell, HasRoom, IsTight};
-ghost use Rattle.engine_model.specs.World.{Layout, World};
+ghost use Rattle.order_model.specs.World.{Layout, World};
 
 /// From a tight image to a tight image.
 pub fn nothing_is_wasted()

@@ -2,12 +2,12 @@
 
 ghost use Rattle.std.specs.Prelude.{◌≡◌, ◌≢◌, ◌⊎◌, ◌<◌, [], ℕ, List, Bool, false};
 ghost use Rattle.engine_model.specs.Counts.{CountsInvariant};
-ghost use Rattle.engine_model.specs.Entries.{Apart, IsData, IsTable};
+ghost use Rattle.order_model.specs.World.{IsData, Layout, Queued, World};
+ghost use Rattle.engine_model.specs.Entries.{Apart, IsTable};
 ghost use Rattle.engine_model.specs.Invariant.{EngineInvariant, Moment};
 ghost use Rattle.engine_model.specs.Pass.{AllBlocked, Pass};
-ghost use Rattle.engine_model.specs.Paths.{Closes};
+ghost use Rattle.order_model.specs.Paths.{Closes};
 ghost use Rattle.engine_model.specs.Schedule.{DeviceRun, NoNode, last_of};
-ghost use Rattle.engine_model.specs.World.{Layout, Queued, World};
 
 /// After a pass exactly the blocked releases are queued; and none after one that follows a flush.
 pub fn postponed_where_blocked()

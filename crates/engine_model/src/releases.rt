@@ -7,7 +7,7 @@ ghost use Rattle.engine_model.specs.Contents.{ContentsInvariant};
 ghost use Rattle.engine_model.specs.Counts.{CountsInvariant};
 ghost use Rattle.engine_model.specs.Known.{Known, Tells};
 ghost use Rattle.engine_model.specs.Releases.{Applied};
-ghost use Rattle.engine_model.specs.World.{Layout, Release, World};
+ghost use Rattle.order_model.specs.World.{Layout, Release, World};
 
 /// An applied release keeps the invariant.
 pub fn released()

@@ -5,12 +5,12 @@ ghost use Rattle.engine_model.specs.Commands.{DataKept};
 ghost use Rattle.engine_model.specs.Contents.{ContentsInvariant};
 ghost use Rattle.engine_model.specs.Corrections.{Corrected};
 ghost use Rattle.engine_model.specs.Counts.{CountsInvariant, Covered};
-ghost use Rattle.engine_model.specs.Entries.{Apart, IsData};
+ghost use Rattle.order_model.specs.World.{IsData, Agree, Layout, Possible, World};
+ghost use Rattle.engine_model.specs.Entries.{Apart};
 ghost use Rattle.engine_model.specs.Images.{CountsExact, CrashImage};
 ghost use Rattle.engine_model.specs.Invariant.{EngineInvariant, Moment};
 ghost use Rattle.engine_model.specs.Scan.{CorrectsNothing, SameWaste, Scan, TablesSettled};
 ghost use Rattle.engine_model.specs.Schedule.{Step, last_of};
-ghost use Rattle.engine_model.specs.World.{Agree, Layout, Possible, World};
 
 /// A correction keeps the invariant.
 pub fn corrected()

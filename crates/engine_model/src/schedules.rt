@@ -4,14 +4,15 @@ ghost use Rattle.std.specs.Prelude.{◌≡◌, ◌⊎◌, ◌↔◌, ◌<◌, �
 ghost use Rattle.engine_model.specs.Contents.{ContentsInvariant, Last};
 ghost use Rattle.engine_model.specs.Counts.{EdgeKinds};
 ghost use Rattle.engine_model.specs.DeviceSteps.{AtRest, Same};
-ghost use Rattle.engine_model.specs.Entries.{Apart, IsData, IsTable, cached_count};
+ghost use Rattle.order_model.specs.World.{IsData, Agree, Layout, Possible, World};
+ghost use Rattle.engine_model.specs.Entries.{Apart, IsTable, cached_count};
 ghost use Rattle.engine_model.specs.Images.{ContentsFit, CountsFit, CrashImage, Format, block_in};
 ghost use Rattle.engine_model.specs.Invariant.{EngineInvariant, Moment};
-ghost use Rattle.engine_model.specs.Paths.{IsAcyclic};
-ghost use Rattle.engine_model.specs.Pool.{Listed, after_fixed, new_pool, taken_all, written_all};
+ghost use Rattle.order_model.specs.Paths.{IsAcyclic};
+ghost use Rattle.order_model.specs.Pool.{Listed, after_fixed, new_pool, taken_all, written_all};
 ghost use Rattle.engine_model.specs.Schedule.{Each, NoNode, Run, gained_in, last_of};
 ghost use Rattle.engine_model.specs.SmallRuns.{SmallRun};
-ghost use Rattle.engine_model.specs.World.{Agree, Has, Layout, Possible, World};
+ghost use Rattle.order_model.specs.Contents.{IsAmong};
 
 /// At every moment the invariant holds; so every image at every moment is fit and reads allowed contents, no cycle
 /// is closed, and edges are of the allowed kinds.
@@ -45,7 +46,7 @@ pub fn after_a_flush()
         → EngineInvariant lay top sound m → NoNode m → Same m.world n.world → n.calls ≡ m.calls → Agree n.pool m.pool
         → ((k : ℕ) → k < lay.blocks → (d : List ℕ) → Last (m.array k) d → n.array k ≡ d ∷ []) → (r : Run lay top n ns)
         → CrashImage (last_of n ns).world image → l < lay.blocks → Last (m.array l) c
-        → (block_in lay image l ≡ c) ⊎ Has (block_in lay image l) (gained_in lay top n ns r l) }
+        → (block_in lay image l ≡ c) ⊎ IsAmong (block_in lay image l) (gained_in lay top n ns r l) }
 {}
 
 /// What a crash leaves starts the next session, and at any moment each block of an image is one of its list, or one
@@ -58,9 +59,9 @@ pub fn sessions_chain()
         → ((p : ℕ) → IsData lay p → Listed (lay.count_page p) tables)
         → Agree n.pool (after_fixed (written_all lay tables (taken_all counted new_pool)))
         → EngineInvariant lay top sound n
-        × ((l : ℕ) → l < lay.blocks → Has (block_in lay n.world.newest l) (m.array l)) }
+        × ((l : ℕ) → l < lay.blocks → IsAmong (block_in lay n.world.newest l) (m.array l)) }
     ensures later { (lay : Layout) (top : ℕ) (sound : Bool) → Apart lay → Format lay top
         → (m : Moment) (ns : List Moment) (image : ℕ → List ℕ) → EngineInvariant lay top sound m
         → (r : Run lay top m ns) → CrashImage (last_of m ns).world image → (l : ℕ) → l < lay.blocks
-        → Has (block_in lay image l) (m.array l) ⊎ Has (block_in lay image l) (gained_in lay top m ns r l) }
+        → IsAmong (block_in lay image l) (m.array l) ⊎ IsAmong (block_in lay image l) (gained_in lay top m ns r l) }
 {}

@@ -4,14 +4,14 @@
 ghost use Rattle.std.specs.Prelude.{◌≡◌, ◌+◌, ◌++◌, ℕ, List, Bool, true};
 ghost use Rattle.engine_model.specs.Counts.{CountsInvariant};
 ghost use Rattle.engine_model.specs.DeviceSteps.{Same};
-ghost use Rattle.engine_model.specs.Entries.{Apart, EdgeKind, IsData, IsTable, cached_count};
+ghost use Rattle.order_model.specs.World.{IsData, Agree, Layout, Release, World};
+ghost use Rattle.engine_model.specs.Entries.{Apart, EdgeKind, IsTable, cached_count};
 ghost use Rattle.engine_model.specs.Invariant.{EngineInvariant, Moment, ToldTake, ToldZero, known_at};
 ghost use Rattle.engine_model.specs.Known.{Free};
-ghost use Rattle.engine_model.specs.Paths.{Closes};
-ghost use Rattle.engine_model.specs.Pool.{Told};
+ghost use Rattle.order_model.specs.Paths.{Closes};
+ghost use Rattle.order_model.specs.Pool.{Told};
 ghost use Rattle.engine_model.specs.SmallRuns.{SmallStep, in_state, with_count, with_name, with_print, with_release_out};
 ghost use Rattle.engine_model.specs.SmallSteps.{CanClear, CanLower, CanName, CanPrint, CanRaise, CanRecount, GainsOrHolds, given_up, held_by, ordered, ordered_after, ordered_by_barrier, placed, touched};
-ghost use Rattle.engine_model.specs.World.{Agree, Layout, Release, World};
 
 /// A table page becomes dirty.
 pub fn touch()

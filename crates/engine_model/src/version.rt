@@ -8,7 +8,7 @@ ghost use Rattle.engine_model.specs.Invariant.{EngineInvariant, Moment};
 ghost use Rattle.engine_model.specs.Schedule.{Each, NoNode, last_of};
 ghost use Rattle.engine_model.specs.SmallSteps.{placed};
 ghost use Rattle.engine_model.specs.VersionSwitch.{Edited, SwitchImage, SwitchRun, SwitchStart, with_finger};
-ghost use Rattle.engine_model.specs.World.{Layout, Possible, World};
+ghost use Rattle.order_model.specs.World.{Layout, Possible, World};
 
 /// Each image within is fit in the version of its first page, and the end keeps the engine invariant in the other
 /// version.

@@ -2,15 +2,18 @@
 //! have taken counts as possible from then on.
 
 ghost use Rattle.std.specs.Prelude.{◌≡◌, ◌∷◌, ℕ, List, Bool};
-ghost use Rattle.engine_model.specs.Births.{BirthKnown, Call, Slot, Tried, Written};
+ghost use Rattle.order_model.specs.Calls.{Call, Tried, Written};
+ghost use Rattle.order_model.specs.declared.Slot.{Slot};
+ghost use Rattle.engine_model.specs.Births.{BirthKnown};
 ghost use Rattle.engine_model.specs.Contents.{ContentsInvariant};
 ghost use Rattle.engine_model.specs.Counts.{CountsInvariant};
 ghost use Rattle.engine_model.specs.DeviceSteps.{IsReady, KeepsMarks, MovesMarks, Same, Taken, page_taken, page_written};
 ghost use Rattle.engine_model.specs.Entries.{Apart};
 ghost use Rattle.engine_model.specs.Invariant.{EngineInvariant, Moment};
-ghost use Rattle.engine_model.specs.Pool.{PoolExact, PoolKnows, PossibleStays, Told, after_tried, after_written};
+ghost use Rattle.order_model.specs.Pool.{Told, after_tried, after_written};
+ghost use Rattle.engine_model.specs.Pool.{PoolExact, PoolKnows, PossibleStays};
 ghost use Rattle.engine_model.specs.SmallRuns.{with_refused, with_taken, with_written};
-ghost use Rattle.engine_model.specs.World.{Agree, Layout, World};
+ghost use Rattle.order_model.specs.World.{Agree, Layout, World};
 
 /// A write that ended done: the page is hung and not dirty, the Live edges from it become Barrier edges, and the
 /// releases of its blocks move from stage 0 to stage 1.

@@ -1,7 +1,7 @@
 -- A new pool, group by group.
 use Rattle.std.proofs.Common.{◌≡◌, ℕ, ◌+◌, ◌-◌, ◌*◌, ◌/◌, ◌%◌, ◌<◌, ◌≤◌, inl, inr, List, refl, ◌∙◌, ap, arith}
 use Rattle.std.proofs.lemmas.Bool.{cases_lt}
-use Rattle.engine_model.specs.Pool.{new_pool}
+use Rattle.order_model.specs.Pool.{new_pool}
 use Rattle.page_alloc.specs.Marks.{told_in, no_told}
 use Rattle.page_alloc.specs.Kept.{marks_at, told_at, IsIndexed}
 use Rattle.page_alloc.specs.declared.marks.Marks.{Marks}

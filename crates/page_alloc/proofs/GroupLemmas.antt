@@ -1,7 +1,7 @@
 -- Groups of data pages, changed one by one.
 use Rattle.std.proofs.Common.{◌≡◌, ◌≢◌, ℕ, ◌+◌, ◌-◌, ◌*◌, ◌/◌, ◌%◌, ◌<◌, ◌≤◌, inl, inr, true, false, not, ◌&&◌, eqb, List, length, set, refl, sym, ◌∙◌, ap, arith, eq-eqb, ne_eqb, true≢false, get_or-set_same, get_or-set_other, length-set}
 use Rattle.std.proofs.lemmas.Bool.{cases_eq, cases_lt}
-use Rattle.engine_model.specs.Pool.{is_free}
+use Rattle.order_model.specs.Pool.{is_free}
 use Rattle.page_alloc.specs.Marks.{told_in, told_after, free_word}
 use Rattle.page_alloc.specs.Numbers.{holds}
 use Rattle.page_alloc.specs.Kept.{marks_at, told_at, IsIndexed}

@@ -2,8 +2,8 @@
 use Rattle.std.proofs.Common.{◌≡◌, ◌≢◌, ℕ, ◌+◌, ◌-◌, ◌*◌, ◌/◌, ◌%◌, ◌<◌, ◌≤◌, inl, inr, true, false, not, ◌&&◌, List, length, get_or, sym, ◌∙◌, ap, arith, true≢false}
 use Rattle.std.proofs.lemmas.Bool.{cases_eq, cases_lt}
 use Rattle.std.proofs.lemmas.List.{get_or_past, get_or_read}
-use Rattle.engine_model.specs.Pool.{is_free, IsLowest}
-use Rattle.engine_model.specs.World.{Layout}
+use Rattle.order_model.specs.Pool.{is_free, IsLowest}
+use Rattle.order_model.specs.World.{Layout}
 use Rattle.page_layout.specs.Shape.{ShapeView}
 use Rattle.page_alloc.specs.Bits.{is_one, IsLowestBit}
 use Rattle.page_alloc.specs.Marks.{told_in, free_word}

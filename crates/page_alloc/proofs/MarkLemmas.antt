@@ -1,6 +1,6 @@
 -- What a step of a count page does to words, and which pages are free.
 use Rattle.std.proofs.Common.{◌≡◌, ℕ, true, false, refl}
-use Rattle.engine_model.specs.Pool.{new_pool}
+use Rattle.order_model.specs.Pool.{new_pool}
 use Rattle.page_alloc.specs.Bits.{is_one}
 use Rattle.page_alloc.specs.Marks.{told_in, no_told}
 use Rattle.page_alloc.proofs.BitLemmas.{none_is}

@@ -4,8 +4,8 @@ use Rattle.std.specs.List.{range_with_len}
 use Rattle.std.proofs.lemmas.Bool.{cases_eq, cases_Bool}
 use Rattle.std.proofs.lemmas.List.{get_or_read}
 use Rattle.std.proofs.lemmas.List.FromFn.{length-map-range_with_len, get_or-map-range_with_len}
-use Rattle.engine_model.specs.Pool.{Told, after_fixed, after_take, after_tried, after_written, after_zeroed}
-use Rattle.engine_model.specs.World.{Layout}
+use Rattle.order_model.specs.Pool.{Told, after_fixed, after_take, after_tried, after_written, after_zeroed}
+use Rattle.order_model.specs.World.{Layout}
 use Rattle.page_layout.specs.Shape.{ShapeView, count_page, count_pages, first_count_page}
 use Rattle.page_alloc.specs.Marks.{told_in, told_after, no_told}
 use Rattle.page_alloc.specs.Numbers.{holds}

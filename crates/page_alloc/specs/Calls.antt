@@ -1,7 +1,7 @@
 -- What a pool knows, as a function of the calls that told it.
 use Rattle.std.specs.Prelude.{ℕ, List, [], ◌∷◌}
-use Rattle.engine_model.specs.Pool.{Told, after_fixed, after_take, after_tried, after_written, after_zeroed, new_pool}
-use Rattle.engine_model.specs.World.{Layout}
+use Rattle.order_model.specs.Pool.{Told, after_fixed, after_take, after_tried, after_written, after_zeroed, new_pool}
+use Rattle.order_model.specs.World.{Layout}
 
 -- a call: a data page is taken or its count became 0, a count page is tried or was written, a barrier was made
 pub data PoolCall : Type 0 where

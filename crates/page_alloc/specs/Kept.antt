@@ -1,6 +1,6 @@
 -- What the words of a pool keep.
 use Rattle.std.specs.Prelude.{◌≡◌, ◌≢◌, ℕ, ◌-◌, ◌*◌, ◌/◌, ◌%◌, ◌<◌, ◌≤◌, true, false, List, length, slice_index_or}
-use Rattle.engine_model.specs.Pool.{Told, is_free}
+use Rattle.order_model.specs.Pool.{Told, is_free}
 use Rattle.page_layout.specs.Shape.{ShapeView, count_pages}
 use Rattle.page_alloc.specs.Marks.{told_in, free_word}
 use Rattle.page_alloc.specs.Numbers.{holds}

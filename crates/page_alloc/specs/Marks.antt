@@ -1,7 +1,7 @@
 -- What is told of the counts of 64 data pages, as three words.
 use Rattle.std.specs.Prelude.{ℕ, false, not, ◌||◌, bit_and}
 use Rattle.std.specs.Int.{bit_not, w64}
-use Rattle.engine_model.specs.Pool.{Told}
+use Rattle.order_model.specs.Pool.{Told}
 use Rattle.page_alloc.specs.Bits.{is_one}
 use Rattle.page_alloc.specs.declared.marks.Marks.{Marks}
 use Rattle.page_alloc.specs.declared.marks.Step.{Step}

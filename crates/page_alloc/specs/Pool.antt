@@ -1,8 +1,8 @@
 -- A pool as its callers see it: what it was told of each data page.
 use Rattle.std.specs.Prelude.{◌≡◌, ℕ, ◌-◌, ◌≤◌, List, map, slice_index_or}
 use Rattle.std.specs.List.{range_with_len}
-use Rattle.engine_model.specs.Pool.{Told}
-use Rattle.engine_model.specs.World.{Layout}
+use Rattle.order_model.specs.Pool.{Told}
+use Rattle.order_model.specs.World.{Layout}
 use Rattle.page_layout.specs.Shape.{ShapeView, count_page}
 use Rattle.page_alloc.specs.Marks.{no_told}
 

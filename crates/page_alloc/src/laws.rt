@@ -1,6 +1,6 @@
 // What a pool knows, as a function of its calls.
 ghost use Rattle.std.specs.Prelude.{◌∷◌, List};
-ghost use Rattle.engine_model.specs.World.{Layout};
+ghost use Rattle.order_model.specs.World.{Layout};
 ghost use Rattle.page_layout.specs.Shape.{ShapeView};
 ghost use Rattle.page_alloc.specs.Calls.{PoolCall, after_call, told_by};
 ghost use Rattle.page_alloc.specs.Pool.{IsTold, PoolView, told_of};

@@ -1,6 +1,6 @@
 // What is told of the counts of 64 data pages.
 ghost use Rattle.std.specs.Prelude.{◌≡◌, ℕ, ◌<◌, ◌≤◌};
-ghost use Rattle.engine_model.specs.Pool.{after_take, after_zeroed, is_free, new_pool};
+ghost use Rattle.order_model.specs.Pool.{after_take, after_zeroed, is_free, new_pool};
 ghost use Rattle.page_alloc.specs.Bits.{is_one};
 ghost use Rattle.page_alloc.specs.Marks.{told_in, told_after, no_told, free_word};
 

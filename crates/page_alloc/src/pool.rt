@@ -1,7 +1,7 @@
 // What is known of the counts of the data pages.
 ghost use Rattle.std.specs.Prelude.{◌≡◌, ◌≢◌, ℕ, ◌+◌, ◌-◌, ◌*◌, ◌/◌, ◌%◌, ◌<◌, ◌≤◌, true, false, length, replicate, IfOk, IfSome, IfNone};
-ghost use Rattle.engine_model.specs.Pool.{IsLowest, after_fixed, after_take, after_tried, after_written, after_zeroed, is_free, new_pool};
-ghost use Rattle.engine_model.specs.World.{Layout};
+ghost use Rattle.order_model.specs.Pool.{IsLowest, after_fixed, after_take, after_tried, after_written, after_zeroed, is_free, new_pool};
+ghost use Rattle.order_model.specs.World.{Layout};
 ghost use Rattle.page_layout.specs.Shape.{count_page, count_pages, first_count_page};
 ghost use Rattle.page_alloc.specs.Kept.{told_at, marks_at, IsIndexed};
 ghost use Rattle.page_alloc.specs.Marks.{no_told};
@@ -25,7 +25,7 @@ use std::marker::Model;
 ///
 /// Contracts see the shape and a list of what was told of each data page (`PoolView` in
 /// `specs/Pool.antt`). What a call makes of it is said by the functions on what a pool was told in
-/// `engine_model` (`specs/Pool.antt` there), for any layout whose count pages stand where the shape's do.
+/// `order_model` (`specs/Pool.antt` there), for any layout whose count pages stand where the shape's do.
 #[derive(Drop)]
 pub struct Pool {
     shape: Shape,

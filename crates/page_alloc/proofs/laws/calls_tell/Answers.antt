@@ -1,6 +1,6 @@
 use Rattle.std.proofs.Common.{ℕ, List, ◌∷◌, ◌∙◌, ap, subst}
-use Rattle.engine_model.specs.Pool.{Told, after_fixed, after_take, after_tried, after_written, after_zeroed}
-use Rattle.engine_model.specs.World.{Layout}
+use Rattle.order_model.specs.Pool.{Told, after_fixed, after_take, after_tried, after_written, after_zeroed}
+use Rattle.order_model.specs.World.{Layout}
 use Rattle.page_layout.specs.Shape.{ShapeView}
 use Rattle.page_alloc.specs.Calls.{PoolCall, Take, Zeroed, CountTried, CountWritten, Fixed, after_call, told_by}
 use Rattle.page_alloc.specs.Pool.{IsTold, PoolView, told_of}

@@ -1,6 +1,6 @@
 use Rattle.std.proofs.Common.{◌≡◌, ap, length, arith}
 use Rattle.std.proofs.lemmas.List.{with_items_is}
-use Rattle.engine_model.specs.Pool.{after_written}
+use Rattle.order_model.specs.Pool.{after_written}
 use Rattle.page_alloc.specs.Kept.{told_at}
 use Rattle.page_alloc.specs.declared.marks.Step.TheVariants.{Written}
 use Rattle.page_alloc.proofs.PoolLemmas.{written_step, counted_step, uncounted_step, some_counted}

@@ -1,6 +1,6 @@
 use Rattle.std.proofs.Common.{◌≡◌, length, arith, ap}
 use Rattle.std.proofs.lemmas.List.{with_items_is}
-use Rattle.engine_model.specs.Pool.{new_pool}
+use Rattle.order_model.specs.Pool.{new_pool}
 use Rattle.page_alloc.specs.Kept.{told_at}
 use Rattle.page_alloc.proofs.PoolLemmas.{is_told_at}
 use Rattle.page_alloc.proofs.pool.Pool.new.Goals as goal

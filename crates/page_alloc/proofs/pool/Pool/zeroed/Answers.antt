@@ -1,6 +1,6 @@
 use Rattle.std.proofs.Common.{◌≡◌, ap, length, arith}
 use Rattle.std.proofs.lemmas.List.{with_items_is}
-use Rattle.engine_model.specs.Pool.{after_zeroed}
+use Rattle.order_model.specs.Pool.{after_zeroed}
 use Rattle.page_alloc.specs.Kept.{told_at}
 use Rattle.page_alloc.specs.Pool.{pool_told, told_of, IsTold}
 use Rattle.page_alloc.proofs.PoolLemmas.{page_call, zeroed_told, zeroed_changes_zero, unchanged, zeroed_again}
