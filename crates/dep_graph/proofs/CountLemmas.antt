@@ -4,7 +4,8 @@ use Rattle.std.specs.Prelude.{if◌then◌else◌}
 use Rattle.std.proofs.lemmas.Bool.{and_from, cases_Bool, cases_eq, false_from_ne_true, not_from_false, or_cases, or_from, or_left, or_right, true≢false}
 use Rattle.std.proofs.lemmas.Bool.Decides.{nat_tests}
 use Rattle.dep_graph.specs.Kept.{hung_alone}
-use Rattle.dep_graph.specs.Lists.{Edge, GraphLists, IsGraph, dirty_in, entered, hung_in, is_node, node_count}
+use Rattle.order_model.specs.Edges.{Edge}
+use Rattle.dep_graph.specs.Lists.{GraphLists, IsGraph, dirty_in, entered, hung_in, is_node, node_count}
 use Rattle.dep_graph.specs.Pages.{holds, IsRising, placed}
 use Rattle.dep_graph.specs.Rising.{Leads, Rises}
 use Rattle.dep_graph.proofs.GraphLemmas.{alone_is, alone_rises}

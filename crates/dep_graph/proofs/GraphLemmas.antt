@@ -4,9 +4,10 @@ use Rattle.std.specs.List.{list_any}
 use Rattle.std.proofs.lemmas.Bool.{and_from, and_parts, cases_Bool, cases_eq, cases_lt, cases_order, le-leb, leb-true, or_from, true≢false}
 use Rattle.dep_graph.specs.declared.pairs.Pair.{Pair}
 use Rattle.dep_graph.specs.Pages.{holds, IsFirst, IsLeast, IsRising}
-use Rattle.dep_graph.specs.Paths.{LivePath}
+use Rattle.order_model.specs.Paths.{LivePath}
 use Rattle.dep_graph.specs.Pairs.{has_pair, ends_at, from_page, not_from_page, AreRising, Precedes}
-use Rattle.dep_graph.specs.Lists.{AreOnce, Edge, IsGraph, barrier_edge, edges_of, is_live, live_edge}
+use Rattle.order_model.specs.Edges.{Edge, is_live}
+use Rattle.dep_graph.specs.Lists.{AreOnce, IsGraph, barrier_edge, edges_of, live_edge}
 use Rattle.dep_graph.specs.Waits.{Waits, waits_for}
 use Rattle.std.proofs.lemmas.List.Filters.{length-filter_both}
 use Rattle.dep_graph.specs.Kept.{IsKept, hung_alone}

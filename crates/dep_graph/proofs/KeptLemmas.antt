@@ -6,7 +6,7 @@ use Rattle.dep_graph.specs.Rising.{Rises}
 use Rattle.dep_graph.specs.declared.pairs.Pair.{Pair}
 use Rattle.dep_graph.specs.Pages.{holds, IsRising}
 use Rattle.dep_graph.specs.Pairs.{has_pair, ends_at, from_page, not_from_page, AreRising}
-use Rattle.dep_graph.specs.Paths.{IsAcyclic, Closes}
+use Rattle.order_model.specs.Paths.{IsAcyclic, Closes}
 use Rattle.dep_graph.specs.Waits.{Waits, count_at, waits_for}
 use Rattle.dep_graph.specs.Kept.{IsKept, hung_alone}
 use Rattle.dep_graph.proofs.PageLemmas.{as_long, longer_by_one, shorter_by_one}

@@ -6,10 +6,10 @@ use Rattle.std.proofs.lemmas.List.{get_or_append_left, get_or_push, get_or_read,
 use Rattle.dep_graph.specs.declared.pairs.Pair.{Pair}
 use Rattle.dep_graph.specs.Pages.{holds, IsAt, IsRising}
 use Rattle.dep_graph.specs.Pairs.{ends_at, from_page, has_pair}
-use Rattle.dep_graph.specs.Paths.{LivePath, leg, IsAcyclic}
+use Rattle.order_model.specs.Paths.{LivePath, leg, IsAcyclic}
 use Rattle.dep_graph.specs.Trails.{seen, AreApart, AreWithin}
 use Rattle.dep_graph.specs.Heights.{AreClimbed}
-use Rattle.dep_graph.specs.Marks.{HasLevels, IsGreatestLevel, Marks}
+use Rattle.order_model.specs.Levels.{HasLevels, IsGreatestLevel, Marks}
 use Rattle.dep_graph.specs.Waits.{count_at}
 use Rattle.dep_graph.proofs.GraphLemmas.{has_ends, has_from}
 use Rattle.dep_graph.proofs.MoveLemmas.{ends_next}

@@ -1,6 +1,6 @@
 -- Ways and cycles.
 use Rattle.std.proofs.Common.{◌≡◌, ◌⊎◌, inl, inr, ℕ, Bool, true, refl, sym, subst}
-use Rattle.dep_graph.specs.Paths.{LivePath, leg, via, IsAcyclic, Closes}
+use Rattle.order_model.specs.Paths.{LivePath, leg, via, IsAcyclic, Closes}
 
 -- a way along fewer edges is a way
 pub way_more : {live more : ℕ → ℕ → Bool} {a b : ℕ} → ((a b : ℕ) → live a b ≡ true → more a b ≡ true) → LivePath live a b → LivePath more a b

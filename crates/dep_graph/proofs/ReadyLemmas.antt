@@ -2,10 +2,11 @@
 use Rattle.std.proofs.Common.{◌≡◌, ◌⊎◌, ◌↔◌, inl, inr, ℕ, Bool, true, false, not, ◌&&◌, List, [], ◌∷◌, get_or, refl, sym, ◌∙◌, ap, subst, eqb, eqb-true, eq-eqb}
 use Rattle.std.specs.List.{list_any}
 use Rattle.std.proofs.lemmas.Bool.{and_from, and_parts, cases_Bool, false_from_ne_true, not-false, not-true, not_from_false, or_cases, or_left, or_right, true≢false}
-use Rattle.dep_graph.specs.declared.Kind.TheVariants.{Live}
-use Rattle.dep_graph.specs.Lists.{Edge, GraphLists, IsGraph, barred_in, dirty_in, is_live, is_ready, live_in, waits_in}
+use Rattle.order_model.specs.declared.Kind.TheVariants.{Live}
+use Rattle.order_model.specs.Edges.{Edge, is_live}
+use Rattle.dep_graph.specs.Lists.{GraphLists, IsGraph, barred_in, dirty_in, is_ready, live_in, waits_in}
 use Rattle.dep_graph.specs.Pages.{holds}
-use Rattle.dep_graph.specs.Paths.{leg, LivePath}
+use Rattle.order_model.specs.Paths.{leg, LivePath}
 use Rattle.dep_graph.proofs.LevelLemmas.{no_source}
 use Rattle.dep_graph.proofs.RisingLemmas.{any_at, any_where}
 

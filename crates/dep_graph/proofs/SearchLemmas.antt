@@ -6,7 +6,7 @@ use Rattle.std.proofs.lemmas.List.{get_or-set_same, get_or-set_other, get_or_app
 use Rattle.dep_graph.specs.declared.pairs.Pair.{Pair}
 use Rattle.dep_graph.specs.Pages.{holds, IsAt, IsRising}
 use Rattle.dep_graph.specs.Pairs.{has_pair, from_page}
-use Rattle.dep_graph.specs.Paths.{LivePath, leg, via, Closes}
+use Rattle.order_model.specs.Paths.{LivePath, leg, via, Closes}
 use Rattle.dep_graph.specs.Trails.{marked_count, seen, AreWithin, IsClosed, IsMarked}
 use Rattle.dep_graph.proofs.RisingLemmas.{any_at, any_where, rises_at}
 use Rattle.dep_graph.proofs.PathLemmas.{way_join}

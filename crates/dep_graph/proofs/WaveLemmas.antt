@@ -1,7 +1,7 @@
 -- No complete schedule has fewer barriers than a node's level, and waves have no more than the greatest.
 use Rattle.std.proofs.Common.{◌≡◌, inl, inr, ◌+◌, ◌-◌, ◌<◌, ◌≤◌, ◌++◌, ℕ, zero, suc, true, false, cond, arith, sym, ap, ◌∙◌, List, [], ◌∷◌, length, append_assoc}
 use Rattle.std.proofs.lemmas.Bool.{cases_Bool, false_from_ne_true, true≢false}
-use Rattle.dep_graph.specs.Marks.{EndsAreMarked, HasLevels, IsGreatestLevel, IsNode, Marks, StepsUp, Waits}
+use Rattle.order_model.specs.Levels.{EndsAreMarked, HasLevels, IsGreatestLevel, IsNode, Marks, StepsUp, Waits}
 use Rattle.dep_graph.specs.Schedules.{IsComplete, MakeBarrier, Respects, Schedule, Wave, Waves, WritePage, barriers, times_written}
 
 barriers_parts : (s t : Schedule) → barriers (s ++ t) ≡ barriers s + barriers t

@@ -3,7 +3,7 @@ use Rattle.std.specs.Prelude.{◌≡◌, ℕ, ◌+◌, ◌<◌, ◌≤◌, ◌^�
 use Rattle.dep_graph.specs.declared.pairs.Pair.{Pair}
 use Rattle.dep_graph.specs.Pages.{holds, IsRising}
 use Rattle.dep_graph.specs.Pairs.{has_pair, ends_at, AreRising}
-use Rattle.dep_graph.specs.Paths.{IsAcyclic}
+use Rattle.order_model.specs.Paths.{IsAcyclic}
 use Rattle.dep_graph.specs.Waits.{Waits, waits_for}
 
 -- the hung pages that are not dirty

@@ -2,9 +2,7 @@ pub mod Rising
 pub mod Pages
 pub mod Waits
 pub mod Pairs
-pub mod Paths
 pub mod Lists
-pub mod Marks
 pub mod Schedules
 pub mod Trails
 pub mod Kept

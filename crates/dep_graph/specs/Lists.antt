@@ -1,17 +1,14 @@
 -- A graph as contracts see it: plain lists of marks and edges.
 use Rattle.std.specs.Prelude.{◌≡◌, ℕ, ◌+◌, ◌-◌, ◌++◌, if◌then◌else◌, List, Bool, true, false, not, ◌&&◌, ◌||◌, eqb, map, filter, length}
 use Rattle.std.specs.List.{list_any}
-use Rattle.dep_graph.specs.declared.Kind.{Kind}
-use Rattle.dep_graph.specs.declared.Kind.TheVariants.{Live, Barrier}
+use Rattle.order_model.specs.declared.Kind.{Kind}
+use Rattle.order_model.specs.declared.Kind.TheVariants.{Live, Barrier}
+use Rattle.order_model.specs.Edges.{Edge, has_barred, has_live, is_live}
+use Rattle.order_model.specs.Levels.{Marks}
+use Rattle.order_model.specs.Paths.{IsAcyclic}
 use Rattle.dep_graph.specs.declared.pairs.Pair.{Pair}
 use Rattle.dep_graph.specs.Pages.{holds, IsRising, placed}
-use Rattle.dep_graph.specs.Paths.{IsAcyclic}
 use Rattle.dep_graph.specs.Rising.{Rises}
-
-pub record Edge : Type 0 where
-  pub before : ℕ
-  pub after : ℕ
-  pub kind : Kind
 
 -- the dirty pages, the hung pages, the edges, and for how many further nodes and edges there is room
 pub record GraphLists : Type 0 where
@@ -20,10 +17,6 @@ pub record GraphLists : Type 0 where
   pub edges : List Edge
   pub spare_nodes : ℕ
   pub spare_edges : ℕ
-
-abbrev pub is_live : Kind → Bool
-is_live Live = true
-is_live Barrier = false
 
 -- marks and edges, looked up
 abbrev pub dirty_in : GraphLists → ℕ → Bool
@@ -36,10 +29,14 @@ abbrev pub is_node : GraphLists → ℕ → Bool
 is_node g a = dirty_in g a || hung_in g a
 
 abbrev pub live_in : GraphLists → ℕ → ℕ → Bool
-live_in g a b = list_any (λ e. eqb e.before a && (eqb e.after b && is_live e.kind)) g.edges
+live_in g a b = has_live g.edges a b
 
 abbrev pub barred_in : GraphLists → ℕ → ℕ → Bool
-barred_in g a b = list_any (λ e. eqb e.before a && (eqb e.after b && not (is_live e.kind))) g.edges
+barred_in g a b = has_barred g.edges a b
+
+-- the marks and edges as tests
+abbrev pub marks_of : GraphLists → Marks
+marks_of g = record { dirty = dirty_in g; hung = hung_in g; live = live_in g; barred = barred_in g }
 
 -- an edge of the kind stands
 abbrev pub edge_in : GraphLists → ℕ → ℕ → Kind → Bool

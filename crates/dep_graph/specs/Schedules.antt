@@ -1,6 +1,6 @@
 -- Schedules of page writes and barriers over a graph, and the waves of a flush.
 use Rattle.std.specs.Prelude.{◌≡◌, ◌+◌, ◌<◌, ◌++◌, ℕ, List, [], ◌∷◌, true, false, cond, not, ◌&&◌}
-use Rattle.dep_graph.specs.Marks.{IsNode, Marks, Waits}
+use Rattle.order_model.specs.Levels.{IsNode, Marks, Waits}
 
 pub data Step : Type 0 where
   WritePage : ℕ → Step

@@ -1,9 +1,10 @@
 // Marks and edges.
 ghost use Rattle.std.specs.Prelude.{◌≡◌, ℕ, ◌+◌, ◌-◌, ◌<◌, ◌≤◌, ◌^◌, ◌||◌, ◌&&◌, ◌↔◌, not, eqb, true, false, length, vec_capacity, [], max, IfOk, OnOk, OnErr, if◌then◌else◌};
-ghost use Rattle.dep_graph.specs.Lists.{dirty_in, hung_in, live_in, barred_in, edge_in, entered, is_live, is_node, is_ready, node_count, waiter_count, waits_in, IsGraph};
+ghost use Rattle.order_model.specs.Edges.{is_live};
+ghost use Rattle.dep_graph.specs.Lists.{dirty_in, hung_in, live_in, barred_in, edge_in, entered, is_node, is_ready, node_count, waiter_count, waits_in, IsGraph, marks_of};
 ghost use Rattle.dep_graph.specs.Pages.{IsLeast};
-ghost use Rattle.dep_graph.specs.Marks.{IsGreatestLevel, marks_of};
-ghost use Rattle.dep_graph.specs.Paths.{Closes};
+ghost use Rattle.order_model.specs.Levels.{IsGreatestLevel};
+ghost use Rattle.order_model.specs.Paths.{Closes};
 
 use crate::levels::greatest_level;
 use crate::moves::{bar_each, lower_each};

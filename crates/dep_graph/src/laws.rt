@@ -1,8 +1,8 @@
 // Laws of graphs that callers above cite.
 ghost use Rattle.std.specs.Prelude.{◌≡◌, ◌⊎◌, ◌↔◌, ℕ, ◌≤◌, Bool, true, false, List, [], length, cond};
 ghost use Rattle.dep_graph.specs.Lists.{GraphLists, IsGraph, barred_in, dirty_in, is_ready, live_in, waits_in};
-ghost use Rattle.dep_graph.specs.Marks.{EndsAreMarked, HasLevels, IsGreatestLevel, IsNode, Marks};
-ghost use Rattle.dep_graph.specs.Paths.{Closes, IsAcyclic};
+ghost use Rattle.order_model.specs.Levels.{EndsAreMarked, HasLevels, IsGreatestLevel, IsNode, Marks};
+ghost use Rattle.order_model.specs.Paths.{Closes, IsAcyclic};
 ghost use Rattle.dep_graph.specs.Schedules.{IsComplete, Respects, Schedule, Waves, barriers, times_written};
 
 /// Of the complete schedules that respect a graph none has fewer barriers than its greatest level. Waves, each of all ready

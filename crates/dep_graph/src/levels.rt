@@ -3,7 +3,7 @@ ghost use Rattle.std.specs.Prelude.{◌≡◌, ◌⊎◌, ◌↔◌, ℕ, ◌+�
 ghost use Rattle.std.specs.List.{list_any};
 ghost use Rattle.dep_graph.specs.Pages.{holds, IsRising};
 ghost use Rattle.dep_graph.specs.Pairs.{AreRising, ends_at, has_pair};
-ghost use Rattle.dep_graph.specs.Paths.{IsAcyclic};
+ghost use Rattle.order_model.specs.Paths.{IsAcyclic};
 ghost use Rattle.dep_graph.specs.Trails.{seen, AreApart, AreWithin};
 ghost use Rattle.dep_graph.specs.Waits.{count_at};
 ghost use Rattle.dep_graph.specs.Heights.{AreClimbed};

@@ -20,16 +20,8 @@ pub use graph::{Graph, NODE_LIMIT};
 pub use laws::{
     barriers_are_fewest, edges_are_waited_for, edges_into_one_page, some_page_is_ready,
 };
+pub use order_model::Kind;
 pub use page_device::NoMemory;
-
-/// What an edge waits for.
-#[derive(Clone, Copy, Debug, PartialEq, Eq)]
-pub enum Kind {
-    /// The write of the page before, and then a barrier.
-    Live,
-    /// A barrier alone.
-    Barrier,
-}
 
 #[cfg(test)]
 mod tests;

@@ -3,7 +3,7 @@ ghost use Rattle.std.specs.Prelude.{◌≡◌, ◌⊎◌, ◌↔◌, ℕ, ◌+�
 ghost use Rattle.std.specs.List.{list_any};
 ghost use Rattle.dep_graph.specs.Pages.{holds, IsFirst, IsRising};
 ghost use Rattle.dep_graph.specs.Pairs.{AreRising, has_pair};
-ghost use Rattle.dep_graph.specs.Paths.{Closes};
+ghost use Rattle.order_model.specs.Paths.{Closes};
 ghost use Rattle.dep_graph.specs.Trails.{seen, AreWithin, IsClosed};
 
 use crate::pages;

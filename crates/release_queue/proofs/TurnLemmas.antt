@@ -2,7 +2,7 @@
 -- makes the second close no cycle that it did not close before.
 use Rattle.std.proofs.Common.{◌≡◌, ◌↔◌, ◌⊎◌, inl, inr, ℕ, ◌++◌, ◌&&◌, ◌||◌, Bool, true, false, eqb, refl, eqb-true, eq-eqb, ne_eqb}
 use Rattle.std.proofs.lemmas.Bool.{and_parts, cases_eq, or_cases, or_left}
-use Rattle.dep_graph.specs.Paths.{Closes}
+use Rattle.order_model.specs.Paths.{Closes}
 use Rattle.dep_graph.proofs.PathLemmas.{closes_before, closes_more}
 use Rattle.release_queue.specs.declared.Release.{Release}
 use Rattle.release_queue.specs.declared.Need.{Need}

@@ -1,8 +1,8 @@
 -- The edges that a release needs, and when it is blocked.
 use Rattle.std.specs.Prelude.{◌≡◌, ◌⊎◌, ◌++◌, ◌&&◌, ◌||◌, ℕ, List, [], ◌∷◌, Bool, true, cond, eqb}
-use Rattle.dep_graph.specs.declared.Kind.TheVariants.{Live as LiveKind, Barrier as BarrierKind}
-use Rattle.dep_graph.specs.Lists.{Edge}
-use Rattle.dep_graph.specs.Paths.{Closes}
+use Rattle.order_model.specs.declared.Kind.TheVariants.{Live as LiveKind, Barrier as BarrierKind}
+use Rattle.order_model.specs.Edges.{Edge}
+use Rattle.order_model.specs.Paths.{Closes}
 use Rattle.release_queue.specs.declared.Release.{Release}
 use Rattle.release_queue.specs.declared.Need.{Need}
 use Rattle.release_queue.specs.declared.Need.TheVariants.{Nothing, Live, Barrier}

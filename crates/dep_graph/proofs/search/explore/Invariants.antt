@@ -1,6 +1,6 @@
 use Rattle.std.proofs.Common.{◌≡◌, ◌⊎◌, ◌≤◌, ◌<◌, ◌-◌, ℕ, true, length, slice_index}
 use Rattle.dep_graph.specs.Pairs.{has_pair}
-use Rattle.dep_graph.specs.Paths.{Closes}
+use Rattle.order_model.specs.Paths.{Closes}
 use Rattle.dep_graph.specs.Trails.{seen, AreWithin}
 use Rattle.dep_graph.proofs.search.explore.Given as goal
 

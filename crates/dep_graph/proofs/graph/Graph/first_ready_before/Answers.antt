@@ -3,7 +3,7 @@ use Rattle.std.proofs.lemmas.Bool.{and_parts, true≢false}
 use Rattle.dep_graph.specs.declared.pairs.Pair.{Pair}
 use Rattle.dep_graph.specs.Pages.{holds}
 use Rattle.dep_graph.specs.Pairs.{has_pair}
-use Rattle.dep_graph.specs.Paths.{Closes}
+use Rattle.order_model.specs.Paths.{Closes}
 use Rattle.dep_graph.specs.Waits.{waits_for}
 use Rattle.dep_graph.specs.Lists.{GraphLists, is_ready, live_in}
 use Rattle.dep_graph.proofs.GraphLemmas.{least_of_first, least_same, live_is, no_way_to, ready_is}

@@ -3,8 +3,8 @@ use Rattle.std.proofs.lemmas.Bool.{true≢false}
 use Rattle.dep_graph.specs.declared.pairs.Pair.{Pair}
 use Rattle.dep_graph.specs.Pages.{holds}
 use Rattle.dep_graph.specs.Pairs.{has_pair}
-use Rattle.dep_graph.specs.Lists.{GraphLists, barred_in, dirty_in, hung_in, live_in}
-use Rattle.dep_graph.specs.Marks.{IsGreatestLevel, marks_of}
+use Rattle.dep_graph.specs.Lists.{GraphLists, barred_in, dirty_in, hung_in, live_in, marks_of}
+use Rattle.order_model.specs.Levels.{IsGreatestLevel}
 use Rattle.dep_graph.proofs.GraphLemmas.{barred_is, live_is}
 use Rattle.dep_graph.proofs.LevelLemmas.{greatest_alone, greatest_with_hung, holds_none, holds_some}
 use Rattle.dep_graph.proofs.graph.Graph.levels.Goals as goal
