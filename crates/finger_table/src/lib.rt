@@ -8,8 +8,6 @@ mod digest;
 mod lists;
 mod order;
 mod prints;
-#[cfg(test)]
-mod tests;
 
 pub use digest::fingerprint;
 pub use prints::Prints;

@@ -8,9 +8,6 @@
 ghost use Rattle.std.specs.Prelude.{◌≡◌, ◌<◌};
 ghost use Rattle.logical_map.specs.Slots.{slot_of, SetsSlot};
 
-#[cfg(test)]
-mod tests;
-
 use page_device::Page;
 use page_layout::{Shape, map_entry, set_map_entry};
 

@@ -11,8 +11,6 @@ mod numbers;
 mod prints;
 mod shape;
 mod superblock;
-#[cfg(test)]
-mod tests;
 mod zeros;
 
 pub use entries::{count_entry, map_entry, set_count_entry, set_map_entry, used_entries};

@@ -9,9 +9,6 @@
 ghost use Rattle.std.specs.Prelude.{◌≡◌, ◌+◌, ◌-◌, ◌<◌, ◌≤◌};
 ghost use Rattle.ref_counts.specs.Counts.{count_in, SetsCount};
 
-#[cfg(test)]
-mod tests;
-
 use page_device::Page;
 pub use page_layout::MAX_COUNT;
 use page_layout::{Shape, count_entry, set_count_entry};

@@ -1,5 +1,5 @@
 // Fingerprints that sha1sum and sha256sum give, and each call of an index of prints once.
-use crate::{Prints, fingerprint};
+use finger_table::{Prints, fingerprint};
 use page_device::Page;
 use std::test::Fail;
 

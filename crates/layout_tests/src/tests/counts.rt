@@ -1,9 +1,9 @@
 // Counts at both ends of a page, raised and lowered.
 ghost use Rattle.std.specs.Prelude.{◌≤◌};
 
-use crate::{MAX_COUNT, count, lower, raise};
 use page_device::Page;
 use page_layout::{Shape, set_count_entry};
+use ref_counts::{MAX_COUNT, count, lower, raise};
 use std::test::Fail;
 
 // Raises a count, where it may be raised.

@@ -1,5 +1,5 @@
 // Slots at both ends of a page, read and set.
-use crate::{set_slot, slot};
+use logical_map::{set_slot, slot};
 use page_device::Page;
 use page_layout::Shape;
 use std::test::Fail;

@@ -1,8 +1,8 @@
 // Worked places, the bytes of a superblock, and each kind of malformed entry.
-use crate::{
+use page_device::{Damage, Page};
+use page_layout::{
     NotFormatted, Shape, Table, print_entry, read_super, set_print_entry, super_page, table_fault,
 };
-use page_device::{Damage, Page};
 use std::test::Fail;
 
 // Blocks, data pages, and where then the counts, the prints and the data begin and the image ends.
