@@ -12,8 +12,6 @@ mod memory;
 mod plan;
 mod sink;
 mod source;
-#[cfg(test)]
-mod tests;
 
 pub use adapter::{StdSink, StdSource};
 pub use memory::{MemSink, MemSource};

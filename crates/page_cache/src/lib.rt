@@ -10,8 +10,6 @@ mod entries;
 mod laws;
 mod moves;
 mod recent;
-#[cfg(test)]
-mod tests;
 
 pub use cache::{Cache, FetchError, LEAST_SIZE, MOST_SIZE};
 pub use laws::{absent_is_unmarked, edits_one_page};

@@ -3,7 +3,5 @@
 #![tactic(auto)]
 
 mod pages;
-#[cfg(test)]
-mod tests;
 
 pub use pages::SparsePages;

@@ -1,6 +1,6 @@
 // Each call once, beside what a plain list of pages holds.
-use crate::SparsePages;
 use page_device::Page;
+use sparse_pages::SparsePages;
 use std::test::Fail;
 
 // Appends the block of a number, where there is room.

@@ -1,7 +1,7 @@
 use Rattle.std.proofs.Common.{◌≡◌, ◌∙◌, ap, false, is_some}
 use Rattle.page_cache.specs.View.{is_there}
 use Rattle.page_cache.proofs.EditLemmas.{free_again, still_held}
-use Rattle.page_cache.proofs.tests.come_and_give_up.Goals as goal
+use Rattle.device_tests.proofs.tests.cache.come_and_give_up.Goals as goal
 
 pub unhold-requires : goal.unhold-requires
 unhold-requires c = still_held _ c.hold.new.self c.args.page _ c.in-Ok-hold.ensures.ok

@@ -1,6 +1,6 @@
 // That clean pages really come from the list, and a long list of calls beside a plain program, over a device that fails.
-use crate::{Cache, Device, Failed, LEAST_SIZE, NoMemory, Page, absent_is_unmarked};
-use page_device::MemDevice;
+use page_cache::{Cache, LEAST_SIZE, absent_is_unmarked};
+use page_device::{Device, Failed, MemDevice, NoMemory, Page};
 use std::alloc::Global;
 use std::process::Abort;
 

@@ -1,7 +1,7 @@
 // Each call once, and what no clause shows: what interrupts a reader or a writer of std.
 ghost use Rattle.std.specs.Prelude.{◌≡◌, IfOk};
 
-use crate::{MemSink, MemSource, Sink, Source, StdSink, StdSource, put_all};
+use byte_ports::{MemSink, MemSource, Sink, Source, StdSink, StdSource, put_all};
 use page_device::Failed;
 use std::io;
 use std::io::{Error, ErrorKind, Read, Write};
@@ -73,12 +73,17 @@ fn fails_where_planned(rt: HostRuntime) -> Result<(), Fail> {
     Ok(())
 }
 
+// Puts a whole text.
+fn put_whole(sink: &mut MemSink, text: &[u8]) -> Result<(), Failed> {
+    put_all(sink, text)
+}
+
 #[test]
 fn collects(rt: HostRuntime) -> Result<(), Fail> {
     let mut sink = MemSink::new(rt.alloc(), [2].to_vec(rt.alloc())?);
     assert_eq!(rt; sink.reserve(5), Ok(()));
-    assert_eq!(rt; put_all(&mut sink, b"page"), Ok(()));
-    assert_eq!(rt; put_all(&mut sink, b"lost"), Err(Failed));
+    assert_eq!(rt; put_whole(&mut sink, b"page"), Ok(()));
+    assert_eq!(rt; put_whole(&mut sink, b"lost"), Err(Failed));
     assert_eq!(rt; sink.put(b"s"), Ok(1));
     assert_eq!(rt; sink.bytes(), b"pages".as_slice());
     Ok(())
