@@ -13,6 +13,3 @@ pub use births::Births;
 pub use laws::calls_are_remembered;
 pub use order_model::Slot;
 pub use page_device::NoMemory;
-
-#[cfg(test)]
-mod tests;

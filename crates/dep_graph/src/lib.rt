@@ -22,6 +22,3 @@ pub use laws::{
 };
 pub use order_model::Kind;
 pub use page_device::NoMemory;
-
-#[cfg(test)]
-mod tests;

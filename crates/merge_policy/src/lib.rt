@@ -21,6 +21,3 @@ pub use delay::Delay;
 pub use eager::Eager;
 pub use hold::Hold;
 pub use policy::{MergePolicy, Offer};
-
-#[cfg(test)]
-mod tests;

@@ -12,8 +12,6 @@ mod laws;
 mod marks;
 mod numbers;
 mod pool;
-#[cfg(test)]
-mod tests;
 
 pub use laws::calls_tell;
 pub use page_device::NoMemory;

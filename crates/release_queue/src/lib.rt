@@ -62,6 +62,3 @@ pub struct Wanted {
     /// From the print page.
     pub from_print: Need,
 }
-
-#[cfg(test)]
-mod tests;

@@ -1,5 +1,5 @@
 // The graph beside a plain program over tables of marks and edges, and the levels of whole sessions.
-use crate::{Graph, Kind, NoMemory};
+use dep_graph::{Graph, Kind, NoMemory};
 use std::process::Abort;
 
 const PAGES: usize = 5;
@@ -178,13 +178,13 @@ impl Plain {
     }
 }
 
-fn enter(graph: &mut Graph, page: u32) -> Result<(), NoMemory> {
+pub fn enter(graph: &mut Graph, page: u32) -> Result<(), NoMemory> {
     graph.reserve(1, 0)?;
     graph.enter(page);
     Ok(())
 }
 
-fn add_live(graph: &mut Graph, before: u32, after: u32) -> Result<bool, NoMemory> {
+pub fn add_live(graph: &mut Graph, before: u32, after: u32) -> Result<bool, NoMemory> {
     graph.reserve(0, 1)?;
     if !graph.is_dirty(before) {
         return Ok(false);
@@ -393,46 +393,73 @@ fn build(
     Ok(graph)
 }
 
-// A block that is written once, over 4 blocks and 4 pages: count page 2 and data page 4 come before map page 1 and print page 3.
+// Pages, edges, the levels and the nodes of their graph, and the first ready page from a page on.
+struct Worked {
+    pages: &'static [u32],
+    edges: &'static [(u32, u32)],
+    levels: u32,
+    nodes: u32,
+    ready: &'static [(u32, Option<u32>)],
+}
+
+const WORKED: [Worked; 3] = [
+    // A block that is written once, over 4 blocks and 4 pages: count page 2 and data page 4 come before map page 1 and print page 3.
+    Worked {
+        pages: &[1, 2, 3, 4],
+        edges: &[(2, 1), (2, 3), (4, 1), (4, 3)],
+        levels: 2,
+        nodes: 4,
+        ready: &[(0, Some(2)), (3, Some(4))],
+    },
+    // A block that is written anew where the old page's count lies in another count page: its release waits for the map and the print page.
+    Worked {
+        pages: &[1, 3, 4, 5, 11, 1042],
+        edges: &[(1042, 1), (1042, 11), (4, 1), (4, 11), (1, 3), (5, 3)],
+        levels: 3,
+        nodes: 6,
+        ready: &[(0, Some(4)), (5, Some(5)), (6, Some(1042))],
+    },
+    // A block that is written where the print page was put before count page 2, and was settled.
+    Worked {
+        pages: &[2, 1, 3, 6],
+        edges: &[(2, 1), (2, 3), (6, 1), (6, 3)],
+        levels: 2,
+        nodes: 4,
+        ready: &[(0, Some(2)), (3, Some(6))],
+    },
+];
+
 #[test]
-fn one_write(rt: HostRuntime) -> Result<(), NoMemory> {
-    let mut graph = build(&rt, &[1, 2, 3, 4], &[(2, 1), (2, 3), (4, 1), (4, 3)])?;
-    assert!(rt; graph.levels() == 2);
-    assert!(rt; graph.first_ready(0) == Some(2));
-    assert!(rt; graph.first_ready(3) == Some(4));
+fn worked_graphs(rt: HostRuntime) -> Result<(), NoMemory> {
+    for row in &WORKED {
+        let mut graph = build(&rt, row.pages, row.edges)?;
+        assert!(rt; graph.levels() == row.levels && graph.nodes() == row.nodes);
+        for (from, page) in row.ready {
+            assert!(rt; graph.first_ready(*from) == *page);
+        }
+    }
     Ok(())
 }
 
-// A block that is written anew where the old page's count lies in another count page: its release waits for the map and the print page.
-#[test]
-fn write_with_release(rt: HostRuntime) -> Result<(), NoMemory> {
-    let mut graph = build(
-        &rt,
-        &[1, 3, 4, 5, 11, 1042],
-        &[(1042, 1), (1042, 11), (4, 1), (4, 11), (1, 3), (5, 3)],
-    )?;
-    assert!(rt; graph.levels() == 3);
-    assert!(rt; graph.nodes() == 6);
-    Ok(())
-}
-
-// A print page that a release put before its count page: the other way round it would close, and it is settled.
+// A print page that a release put before its count page: the other way round it would close, until it is settled.
 #[test]
 fn settled_print_page(rt: HostRuntime) -> Result<(), NoMemory> {
-    let mut graph = build(&rt, &[2, 3], &[(3, 2)])?;
-    assert!(rt; graph.closes(2, 3));
-    assert!(rt; graph.first_ready_before(2, 0) == Some(3));
-    assert!(rt; write(&mut graph, 3));
-    graph.barrier();
-    for page in [1, 3, 6] {
-        enter(&mut graph, page)?;
-    }
-    for (before, after) in [(2, 1), (2, 3), (6, 1), (6, 3)] {
-        let added = add_live(&mut graph, before, after)?;
-        assert!(rt; added);
-    }
-    assert!(rt; graph.levels() == 2);
-    assert!(rt; graph.first_ready(0) == Some(2));
-    assert!(rt; graph.first_ready(3) == Some(6));
-    Ok(())
+    run(
+        &rt,
+        &[
+            Step::Enter(2),
+            Step::Enter(3),
+            Step::Live(3, 2),
+            Step::Live(2, 3),
+            Step::Write(3),
+            Step::Fix,
+            Step::Enter(1),
+            Step::Enter(3),
+            Step::Enter(4),
+            Step::Live(2, 1),
+            Step::Live(2, 3),
+            Step::Live(4, 1),
+            Step::Live(4, 3),
+        ],
+    )
 }

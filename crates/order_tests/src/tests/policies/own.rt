@@ -2,9 +2,9 @@
 ghost use Rattle.std.specs.Prelude.{[]};
 ghost use Rattle.merge_policy.specs.declared.labels.TheConstants.{FIRST_OWN};
 
-use crate::labels::FIRST_OWN;
-use crate::{MergePolicy, Offer};
-use std::test::Fail;
+use super::kinds::{Call, follow};
+use merge_policy::labels::FIRST_OWN;
+use merge_policy::{MergePolicy, Offer};
 
 /// Writes the pages that others wait for, and makes a barrier once enough pages are hung.
 #[derive(Drop)]
@@ -41,25 +41,29 @@ impl MergePolicy for Unblock {
     }
 }
 
-#[test]
-fn asks_a_policy_of_its_own(rt: HostRuntime) {
-    let offer = |page, waiters| Offer {
+// A page for which so many others wait.
+fn offer(page: u32, waiters: u32) -> Offer {
+    Offer {
         page,
         age: 0,
         edits: 1,
         waiters,
-    };
+    }
+}
+
+#[test]
+fn asks_a_policy_of_its_own(rt: HostRuntime) {
     let mut policy = Unblock::new();
-    assert_eq!(rt;
-        policy.pick(&[offer(2, 0), offer(3, 4), offer(7, 1)]),
-        Some(1)
-    );
-    policy.wrote(1);
-    assert_eq!(rt; policy.barrier(1), false);
-    assert_eq!(rt; policy.pick(&[offer(2, 0), offer(7, 1)]), Some(1));
-    policy.wrote(1);
-    assert_eq!(rt; policy.pick(&[offer(2, 0)]), None);
-    assert_eq!(rt; policy.barrier(2), true);
-    policy.tune(3);
-    assert_eq!(rt; policy.barrier(2), false);
+    let calls = [
+        Call::Pick(&[offer(2, 0), offer(3, 4), offer(7, 1)], Some(1)),
+        Call::Wrote(1),
+        Call::Barrier(1, false),
+        Call::Pick(&[offer(2, 0), offer(7, 1)], Some(1)),
+        Call::Wrote(1),
+        Call::Pick(&[offer(2, 0)], None),
+        Call::Barrier(2, true),
+        Call::Tune(3),
+        Call::Barrier(2, false),
+    ];
+    follow(&rt, &mut policy, &calls);
 }

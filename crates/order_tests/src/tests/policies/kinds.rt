@@ -1,10 +1,10 @@
 // Each kind's answers to a list of calls.
-use crate::{Adaptive, Batch, Delay, Eager, Hold, MergePolicy, Offer};
+use merge_policy::{Adaptive, Batch, Delay, Eager, Hold, MergePolicy, Offer};
 use std::process::Abort;
 
 // A call, and what it answers.
 #[derive(Clone, Copy)]
-enum Call<'a> {
+pub enum Call<'a> {
     Tune(u32),
     Pick(&'a [Offer], Option<usize>),
     Wrote(u32),
@@ -12,7 +12,7 @@ enum Call<'a> {
 }
 
 // A page of this age, with so many changes.
-fn page(age: u64, edits: u32) -> Offer {
+pub fn page(age: u64, edits: u32) -> Offer {
     Offer {
         page: 4,
         age,
@@ -21,7 +21,7 @@ fn page(age: u64, edits: u32) -> Offer {
     }
 }
 
-fn follow(rt: &impl Abort, policy: &mut dyn MergePolicy, calls: &[Call]) {
+pub fn follow(rt: &impl Abort, policy: &mut dyn MergePolicy, calls: &[Call]) {
     for (place, call) in calls.iter().enumerate() {
         match call {
             Call::Tune(n) => policy.tune(*n),

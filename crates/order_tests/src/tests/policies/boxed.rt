@@ -5,9 +5,11 @@ ghost use Rattle.merge_policy.specs.Boxes.{first_with};
 ghost use Rattle.merge_policy.specs.Calls.{Bars, IsTold, IsTuned, Picks};
 ghost use Rattle.merge_policy.specs.Kinds.{is_old};
 
+use super::kinds::{Call, page};
 use super::own::Unblock;
-use crate::labels::{ADAPTIVE, DELAY, FIRST_OWN, HOLD};
-use crate::{Adaptive, Batch, Delay, Eager, Hold, MergePolicy, Offer, take_first};
+use merge_policy::labels::{ADAPTIVE, DELAY, FIRST_OWN, HOLD};
+use merge_policy::{Adaptive, Batch, Delay, Eager, Hold, MergePolicy, Offer, take_first};
+use std::process::Abort;
 use std::test::Fail;
 
 // A store with the policy at work.
@@ -73,6 +75,22 @@ impl Store {
     }
 }
 
+// Asks the policy at work.
+fn follow(rt: &impl Abort, store: &mut Store, calls: &[Call]) {
+    for (place, call) in calls.iter().enumerate() {
+        match call {
+            Call::Tune(n) => store.tune(*n),
+            Call::Pick(offers, want) => {
+                assert_eq!(rt; store.pick(offers), *want, "of call {place}");
+            }
+            Call::Wrote(edits) => store.wrote(*edits),
+            Call::Barrier(hung, want) => {
+                assert_eq!(rt; store.barrier(*hung), *want, "of call {place}");
+            }
+        }
+    }
+}
+
 // The labels of a list of boxes of each kind and of a caller's own, each taken as often as it is asked for.
 #[test]
 fn takes_boxes_by_label(rt: HostRuntime) -> Result<(), Fail> {
@@ -109,19 +127,17 @@ fn asks_through_a_box(rt: HostRuntime) -> Result<(), Fail> {
     let mut store = Store {
         policy: Box::new(alloc, Adaptive::new())?,
     };
-    let offers = [Offer {
-        page: 1,
-        age: 0,
-        edits: 4,
-        waiters: 0,
-    }];
-    assert_eq!(rt; store.pick(&offers), Some(0));
-    store.wrote(4);
-    assert_eq!(rt; store.pick(&offers), None);
-    store.tune(4);
-    assert_eq!(rt; store.pick(&offers), Some(0));
-    assert_eq!(rt; store.barrier(1), true);
+    let offers = [page(0, 4)];
+    let calls = [
+        Call::Pick(&offers, Some(0)),
+        Call::Wrote(4),
+        Call::Pick(&offers, None),
+        Call::Tune(4),
+        Call::Pick(&offers, Some(0)),
+        Call::Barrier(1, true),
+    ];
+    follow(&rt, &mut store, &calls);
     store.swap(Box::new(alloc, Hold::new())?);
-    assert_eq!(rt; store.pick(&offers), None);
+    follow(&rt, &mut store, &[Call::Pick(&offers, None)]);
     Ok(())
 }

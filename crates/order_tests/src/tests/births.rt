@@ -1,4 +1,4 @@
-use crate::{Births, NoMemory, Slot};
+use birth_marks::{Births, NoMemory, Slot};
 use std::process::Abort;
 
 const NAME: Slot = Slot::Name(0);
@@ -7,12 +7,11 @@ const PRINT: Slot = Slot::Print(1);
 
 // Which of the values 0 to 3 are unborn.
 fn unborn(births: &Births, slot: Slot) -> [bool; 4] {
-    [
-        births.unborn(slot, 0),
-        births.unborn(slot, 1),
-        births.unborn(slot, 2),
-        births.unborn(slot, 3),
-    ]
+    let mut found = [false; 4];
+    for value in 0..4u32 {
+        found[value as usize] = births.unborn(slot, value);
+    }
+    found
 }
 
 // A block takes page 1 and then page 2, with no write between: page 1 and its print were never on the device.

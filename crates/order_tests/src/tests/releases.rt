@@ -1,9 +1,10 @@
 ghost use Rattle.std.specs.Prelude.{◌≤◌};
 
-use crate::{
+use super::graph::{add_live, enter};
+use dep_graph::Graph;
+use release_queue::{
     FIXED, NOT_WRITTEN, Need, NoMemory, Queue, Release, UNBORN, WRITTEN, Wanted, blocked, needs,
 };
-use dep_graph::{Graph, Kind};
 use std::process::Abort;
 
 // A graph, the map, count and print page of a release and its stage, whether its page loses its last print, and whether it has to
@@ -82,27 +83,11 @@ fn owed(pages: (u32, u32, u32), stage: u8) -> Release
     }
 }
 
-fn enter(graph: &mut Graph, page: u32) -> Result<(), NoMemory> {
-    graph.reserve(1, 0)?;
-    graph.enter(page);
-    Ok(())
-}
-
+// Enters two pages, and adds an edge between them where it may stand.
 fn add(graph: &mut Graph, before: u32, after: u32) -> Result<bool, NoMemory> {
     enter(graph, before)?;
     enter(graph, after)?;
-    graph.reserve(0, 1)?;
-    if !graph.is_dirty(before) {
-        return Ok(false);
-    }
-    if !graph.is_dirty(after) {
-        return Ok(false);
-    }
-    if graph.closes(before, after) {
-        return Ok(false);
-    }
-    graph.add(before, after, Kind::Live);
-    Ok(true)
+    add_live(graph, before, after)
 }
 
 #[test]
@@ -145,11 +130,11 @@ fn remove(queue: &mut Queue, i: u32) -> Option<Release> {
 }
 
 fn stages(queue: &Queue) -> [Option<u8>; 3] {
-    [
-        at(queue, 0).map(|release| release.stage),
-        at(queue, 1).map(|release| release.stage),
-        at(queue, 2).map(|release| release.stage),
-    ]
+    let mut stages = [None; 3];
+    for i in 0..3u32 {
+        stages[i as usize] = at(queue, i).map(|release| release.stage);
+    }
+    stages
 }
 
 // Two releases of map page 1 and one of map page 2: a write, a barrier, and a removal.

@@ -1,0 +1,6 @@
+// Worked lists of calls, some beside a plain program.
+mod births;
+mod graph;
+mod policies;
+mod pool;
+mod releases;
