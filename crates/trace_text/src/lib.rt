@@ -10,6 +10,7 @@ mod contents;
 mod digits;
 mod fields;
 mod kinds;
+mod laws;
 mod line_buf;
 mod lines;
 mod number;
@@ -21,6 +22,7 @@ pub use actions::{
     formatted_text, low_count_text, print_on_zero_text, sound_text, wrong_print_text,
 };
 pub use command::Command;
+pub use laws::one_line_is_one_command;
 pub use line_buf::LineBuf;
 pub use lines::command_text;
 pub use number::read_number;
