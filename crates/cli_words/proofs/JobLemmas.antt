@@ -18,6 +18,7 @@ use Rattle.cli_words.specs.declared.names.Argument.TheVariants.{Positional, Name
 use Rattle.cli_words.specs.declared.names.OptionName.{OptionName}
 use Rattle.cli_words.specs.declared.names.OptionName.TheVariants.{Blocks, Pages, Cache, Policy, Seed, Count}
 use Rattle.cli_words.specs.declared.settings.Settings.{Settings}
+use Rattle.cli_words.proofs.ScanLemmas.{spelled_once}
 use Rattle.cli_words.proofs.TokenLemmas.{IsOnePlain, tidy_from_values}
 
 -- ---- a job of the table takes its options, and no other numbers make it
@@ -217,3 +218,22 @@ settled_in_range values job.Upgrade s = tt
 settled_in_range values job.Merge s = tt
 settled_in_range values (job.Serve cache policy) s = session_within values s.given cache policy s.says (s.takes Cache) (s.takes Policy)
 settled_in_range values (job.Vtrace cache policy) s = session_within values s.given cache policy s.says (s.takes Cache) (s.takes Policy)
+
+-- ---- words mean one job at most
+
+settled_once : (values : Argument → List Text) (i j : Job) → Settles values i → Settles values j → i ≡ j
+settled_once values i j a b =
+    let same : (o : OptionName) → b.given o ≡ a.given o = λ o. said_once o (values (Named o)) _ _ (b.says o) (a.says o) in
+    let takes : (o : OptionName) → Takes (role j o) (a.given o) = λ o. subst (λ g. Takes (role j o) g) (same o) (b.takes o) in
+    let one = made_by i _ _ _ _ _ _ (a.takes Blocks, a.takes Pages, a.takes Cache, a.takes Policy, a.takes Seed, a.takes Count) in
+    let other = made_by j _ _ _ _ _ _ (takes Blocks, takes Pages, takes Cache, takes Policy, takes Seed, takes Count) in
+    let action : action_of i ≡ action_of j = same_action (action_of i) (action_of j) (values Positional) a.action b.action in
+    let e : Some i ≡ Some j =
+    sym one ∙ ap (λ k. job_of k (a.given Blocks) (a.given Pages) (a.given Cache) (a.given Policy) (a.given Seed) (a.given Count)) action ∙ other in
+    cc
+
+pub meant_once : (words : List Text) (i j : Job) → Means words i → Means words j → i ≡ j
+meant_once words i j a b =
+    let tokens : a.tokens ≡ b.tokens =
+    spelled_once none_came none_came a.tokens b.tokens (meant_tidy words i a) (meant_tidy words j b) (sym a.spelled ∙ b.spelled) in
+    settled_once (λ x. values_in x b.tokens) i j (subst (λ ts. Settles (λ x. values_in x ts) i) tokens a.settled) b.settled

@@ -1,5 +1,5 @@
 -- Words by their first characters, and the tokens that tidy words are.
-use Rattle.std.proofs.Common.{arith, ◌≡◌, ◌∙◌, ap, ap₂, sym, subst, refl, ℕ, ◌<◌, Bool, true, false, ◌==◌, List, [], ◌∷◌, ◌++◌, length, get_or, cond, nat_lt, Option, Some, None, eqb-true, lt-ltb, ltb-true, ltb-false, bytes_eq}
+use Rattle.std.proofs.Common.{arith, ◌≡◌, ◌∙◌, ap, ap₂, sym, subst, refl, ℕ, ◌<◌, Bool, true, false, ◌==◌, List, [], ◌∷◌, ◌++◌, length, get_or, drop, cond, nat_lt, Option, Some, None, eqb-true, lt-ltb, ltb-true, ltb-false, bytes_eq}
 use Rattle.std.specs.Prelude.{is_some}
 use Rattle.std.specs.Option.{option_map_or}
 use Rattle.std.specs.List.{position_or_len, before_first, after_first}
@@ -182,3 +182,58 @@ ends (w ∷ ws) came = (argument_first w ws (ends ws) came (kind_of w) (kind_is 
 
 pub tidy_tokens : (came : Came) (ws : List Text) → ends_well (at came false) ws ≡ true → TidyTokens came ws
 tidy_tokens came ws = (ends ws came).0
+
+-- ---- words are those of one list of tidy tokens at most
+
+-- the kind of a token's first word
+abbrev shape : Token → WordKind
+shape (plain w) = Plain
+shape (joined o v) = NameAndValue o
+shape (apart o v) = Name o
+
+-- the first word, where there is one
+abbrev first_word : List Text → Text
+first_word [] = []
+first_word (w ∷ ws) = w
+
+first_kind : (came : Came) (t : Token) (ts : List Token) → IsTidy came (t ∷ ts) → kind_of (first_word (spelling (t ∷ ts))) ≡ shape t
+first_kind came (plain w) ts tidy = kind-plain w tidy.0
+first_kind came (joined o v) ts tidy = kind-dashed_value o v
+first_kind came (apart o v) ts tidy = kind-dashed o
+
+same_shape : (a b : Came) (t u : Token) (ts us : List Token) → IsTidy a (t ∷ ts) → IsTidy b (u ∷ us) → spelling (t ∷ ts) ≡ spelling (u ∷ us)
+    → shape t ≡ shape u
+same_shape a b t u ts us one other e = sym (first_kind a t ts one) ∙ ap (λ ws. kind_of (first_word ws)) e ∙ first_kind b u us other
+
+-- an option and its value in one word
+value_once : (o : OptionName) (v w : Text) → dashed_value o v ≡ dashed_value o w → v ≡ w
+value_once Blocks v w e = ap (drop 9) e
+value_once Pages v w e = ap (drop 8) e
+value_once Cache v w e = ap (drop 8) e
+value_once Policy v w e = ap (drop 9) e
+value_once Seed v w e = ap (drop 7) e
+value_once Count v w e = ap (drop 8) e
+
+pub spelled_once : (a b : Came) (ts us : List Token) → IsTidy a ts → IsTidy b us → spelling ts ≡ spelling us → ts ≡ us
+spelled_once a b [] [] one other e = refl
+spelled_once a b [] (plain x ∷ us) one other e = absurd cc
+spelled_once a b [] (joined p x ∷ us) one other e = absurd cc
+spelled_once a b [] (apart p x ∷ us) one other e = absurd cc
+spelled_once a b (plain w ∷ ts) [] one other e = absurd cc
+spelled_once a b (joined o v ∷ ts) [] one other e = absurd cc
+spelled_once a b (apart o v ∷ ts) [] one other e = absurd cc
+spelled_once a b (plain w ∷ ts) (plain x ∷ us) one other e =
+    ap₂ (λ y l. plain y ∷ l) (ap first_word e) (spelled_once (marked a Positional) (marked b Positional) ts us one.2 other.2 (ap (drop 1) e))
+spelled_once a b (joined o v ∷ ts) (joined p x ∷ us) one other e =
+    let kinds = same_shape a b (joined o v) (joined p x) ts us one other e in
+    let name : o ≡ p = cc in
+    let value : v ≡ x = value_once p v x (subst (λ n. dashed_value n v ≡ dashed_value p x) name (ap first_word e)) in
+    let rest = spelled_once (marked a (Named o)) (marked b (Named p)) ts us one.1 other.1 (ap (drop 1) e) in
+    cc
+spelled_once a b (apart o v ∷ ts) (apart p x ∷ us) one other e =
+    let kinds = same_shape a b (apart o v) (apart p x) ts us one other e in
+    let name : o ≡ p = cc in
+    let value : v ≡ x = ap (λ ws. first_word (drop 1 ws)) e in
+    let rest = spelled_once (marked a (Named o)) (marked b (Named p)) ts us one.2 other.2 (ap (drop 2) e) in
+    cc
+spelled_once a b (t ∷ ts) (u ∷ us) one other e = let kinds = same_shape a b t u ts us one other e in absurd cc

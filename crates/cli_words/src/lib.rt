@@ -32,6 +32,7 @@ ghost use Rattle.cli_words.specs.declared.jobs.Job.{Job};
 
 mod clap_command;
 mod jobs;
+mod laws;
 mod names;
 mod number;
 mod scan;
@@ -41,6 +42,7 @@ mod tests;
 
 use clap_command::find_values;
 pub use jobs::{Job, WordsError};
+pub use laws::words_are_one_job;
 use scan::is_tidy;
 use settings::job_of_values;
 
