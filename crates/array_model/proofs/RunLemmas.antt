@@ -1,95 +1,23 @@
--- One turn more of a run.
-use Rattle.std.proofs.Common.{◌≡◌, ℕ, ◌+◌, List, [], ◌∷◌, ◌++◌, length, Option, Some, None, refl, sym, ◌∙◌, ap, subst, append_assoc}
+-- Turns, their texts and their lines, one after another.
+use Rattle.std.proofs.Common.{◌≡◌, ℕ, ◌==◌, if◌then◌else◌, Bool, true, false, arith, List, [], ◌∷◌, ◌++◌, Option, refl, sym, ◌∙◌, ap, append_assoc}
 use Rattle.std.proofs.lemmas.List.{append-nil}
+use Rattle.std.proofs.lemmas.Bool.Decides.{nat_tests}
 use Rattle.page_device.specs.declared.device.LogEntry.{LogEntry}
 use Rattle.page_device.specs.Block.{Block}
-use Rattle.page_device.specs.Disk.{DeviceState, state_after}
-use Rattle.page_device.specs.Moments.{EachImage, EachMoment, state_after-append}
-use Rattle.page_device.specs.Runs.{Runs, all_calls, after_turns}
+use Rattle.page_device.specs.Runs.{all_calls}
 use Rattle.trace_text.specs.Texts.{text_of}
 use Rattle.array_model.specs.Images.{Mode}
-use Rattle.array_model.specs.Array.{BlockArray}
-use Rattle.array_model.specs.Turns.{Turn, Work, answered, Rules, RunState, Asks, FitsAsked, IsRun, after_turn, state_after_turns, at_after, texts, lines_of, works_of, joined, AreLines, IsLine, calls_of, array_after_work, MayLeave, calls_of_works, array_after_works, WorksLeave}
+use Rattle.array_model.specs.Turns.{Turn, Work, Rules, texts, lines_of, joined, AreLines, IsLine, Parts, parts_of, first_longer, one_longer, last_line, calls_of, array_after_work, MayLeave, calls_of_works}
 
 module _ {A T : Type 0} (calls : T → List LogEntry) (next : A → T → A) (P : A → Option T → List Block → Type 0) where
-  all_calls-last : (ts : List T) (t : T) → all_calls calls next P (ts ++ t ∷ []) ≡ all_calls calls next P ts ++ calls t
+  all_calls-append : (ts us : List T) → all_calls calls next P (ts ++ us) ≡ all_calls calls next P ts ++ all_calls calls next P us
   unfolding all_calls
-  all_calls-last [] t = append-nil (calls t)
-  all_calls-last (u ∷ us) t = ap (λ (l : List LogEntry). calls u ++ l) (all_calls-last us t) ∙ sym (append_assoc (calls u) (all_calls calls next P us) (calls t))
+  all_calls-append [] us = refl
+  all_calls-append (t ∷ ts) us = ap (λ (l : List LogEntry). calls t ++ l) (all_calls-append ts us) ∙ sym (append_assoc (calls t) (all_calls calls next P ts) (all_calls calls next P us))
 
-  after_turns-last : (a : A) (ts : List T) (t : T) → after_turns calls next P a (ts ++ t ∷ []) ≡ next (after_turns calls next P a ts) t
-  unfolding after_turns
-  after_turns-last a [] t = refl
-  after_turns-last a (u ∷ us) t = after_turns-last (next a u) us t
-
-  runs-last : (a : A) (s : DeviceState) (ts : List T) (t : T) → Runs calls next P a s ts
-      → EachMoment (P (after_turns calls next P a ts) (Some t)) (state_after s (all_calls calls next P ts)) (calls t)
-      → EachImage (P (next (after_turns calls next P a ts) t) None) (state_after (state_after s (all_calls calls next P ts)) (calls t))
-      → Runs calls next P a s (ts ++ t ∷ [])
-  unfolding Runs all_calls after_turns state_after
-  runs-last a s [] t r within later = (within, later)
-  runs-last a s (u ∷ us) t r within later =
-      let same = state_after-append s (calls u) (all_calls calls next P us) in (
-        r.0,
-        runs-last (next a u) (state_after s (calls u)) us t r.1
-            (subst (λ (x : DeviceState). EachMoment (P (after_turns calls next P (next a u) us) (Some t)) x (calls t)) same within)
-            (subst (λ (x : DeviceState). EachImage (P (next (after_turns calls next P (next a u) us) t) None) (state_after x (calls t))) same later),
-      )
-
-module _ (mode : Mode) (rules : Rules) where
-  -- one work more
-  pub calls-last : (works : List Work) (work : Work) → calls_of_works mode rules (works ++ work ∷ []) ≡ calls_of_works mode rules works ++ calls_of work
-  calls-last works work = all_calls-last calls_of (array_after_work rules) (MayLeave mode rules) works work
-
-  pub array-last : (a : BlockArray) (works : List Work) (work : Work) → array_after_works mode rules a (works ++ work ∷ []) ≡ array_after_work rules (array_after_works mode rules a works) work
-  array-last a works work = after_turns-last calls_of (array_after_work rules) (MayLeave mode rules) a works work
-
-  pub leave-last : (a : BlockArray) (s : DeviceState) (works : List Work) (work : Work) → WorksLeave mode rules a s works
-      → EachMoment (MayLeave mode rules (array_after_works mode rules a works) (Some work)) (state_after s (calls_of_works mode rules works)) (calls_of work)
-      → EachImage (MayLeave mode rules (array_after_work rules (array_after_works mode rules a works) work) None) (state_after (state_after s (calls_of_works mode rules works)) (calls_of work))
-      → WorksLeave mode rules a s (works ++ work ∷ [])
-  leave-last a s works work r within later = runs-last calls_of (array_after_work rules) (MayLeave mode rules) a s works work r within later
-
-  -- nothing was done yet
-  pub leave-none : (a : BlockArray) (s : DeviceState) → EachImage (MayLeave mode rules a None) s → WorksLeave mode rules a s []
-  unfolding Runs
-  leave-none a s here = here
-
-  pub calls-none : calls_of_works mode rules [] ≡ []
-  unfolding all_calls
-  calls-none = refl
-
-  pub array-none : (a : BlockArray) → array_after_works mode rules a [] ≡ a
-  unfolding after_turns
-  array-none a = refl
-
-  -- the array of a run
-  pub array_is : (s : RunState) (turns : List Turn) → (state_after_turns rules s turns).array ≡ array_after_works mode rules s.array (works_of turns)
-  unfolding state_after_turns works_of after_turns
-  array_is s [] = refl
-  array_is s (turn ∷ turns) = array_is (after_turn rules s turn) turns
-
-pub works_of-last : (turns : List Turn) (turn : Turn) → works_of (turns ++ turn ∷ []) ≡ works_of turns ++ answered turn ∷ []
-unfolding works_of
-works_of-last [] turn = refl
-works_of-last (t ∷ ts) turn = ap (λ (l : List Work). answered t ∷ l) (works_of-last ts turn)
-
-pub state-last : (rules : Rules) (s : RunState) (turns : List Turn) (turn : Turn) → state_after_turns rules s (turns ++ turn ∷ []) ≡ after_turn rules (state_after_turns rules s turns) turn
-unfolding state_after_turns
-state-last rules s [] turn = refl
-state-last rules s (t ∷ ts) turn = state-last rules (after_turn rules s t) ts turn
-
-pub at-last : (at : ℕ) (turns : List Turn) (turn : Turn) → at_after at (turns ++ turn ∷ []) ≡ turn.at
-unfolding at_after
-at-last at [] turn = refl
-at-last at (t ∷ ts) turn = at-last t.at ts turn
-
--- a run with one turn more
-pub run-last : (rules : Rules) (s : RunState) (at : ℕ) (turns : List Turn) (turn : Turn) → IsRun rules s at turns
-    → Asks rules turn.line turn.asked → FitsAsked rules (state_after_turns rules s turns) turn.asked turn.answer → turn.at ≡ at_after at turns + length turn.calls → IsRun rules s at (turns ++ turn ∷ [])
-unfolding IsRun state_after_turns at_after
-run-last rules s at [] turn r asks fits number = (asks, fits, number, tt)
-run-last rules s at (t ∷ ts) turn r asks fits number = (r.0, r.1, r.2, run-last rules (after_turn rules s t) t.at ts turn r.3 asks fits number)
+-- the device calls of some works, and then of more
+pub calls-append : (mode : Mode) (rules : Rules) (works more : List Work) → calls_of_works mode rules (works ++ more) ≡ calls_of_works mode rules works ++ calls_of_works mode rules more
+calls-append mode rules works more = all_calls-append calls_of (array_after_work rules) (MayLeave mode rules) works more
 
 pub texts-last : (turns : List Turn) (turn : Turn) → texts (turns ++ turn ∷ []) ≡ texts turns ++ text_of turn.at turn.answer
 unfolding texts
@@ -129,3 +57,72 @@ no_line = tt
 pub empty_line : IsLine []
 unfolding IsLine
 empty_line = tt
+
+-- the parts of lines and a rest are these
+not_ten : (byte : ℕ) (parts : Parts) → (byte ≡ 10 → ⊥) → one_longer byte parts ≡ first_longer byte parts.ended parts.rest
+not_ten byte parts apart = by (byte == 10) refl
+  where
+    by : (b : Bool) → (byte == 10) ≡ b → (if b then record { ended = [] ∷ parts.ended; rest = parts.rest } else first_longer byte parts.ended parts.rest) ≡ first_longer byte parts.ended parts.rest
+    by true e = absurd (apart (let same : byte ≡ 10 = grind (arith, nat_tests) in same))
+    by false e = refl
+
+pub parts_line : (line more : List ℕ) → IsLine line → parts_of (line ++ 10 ∷ more) ≡ record { ended = line ∷ (parts_of more).ended; rest = (parts_of more).rest }
+unfolding parts_of IsLine
+parts_line [] more is = refl
+parts_line (byte ∷ line) more is = ap (one_longer byte) (parts_line line more is.1) ∙ not_ten byte (record { ended = line ∷ (parts_of more).ended; rest = (parts_of more).rest }) is.0
+
+pub parts_rest : (rest : List ℕ) → IsLine rest → parts_of rest ≡ record { ended = []; rest = rest }
+unfolding parts_of IsLine
+parts_rest [] is = refl
+parts_rest (byte ∷ rest) is = ap (one_longer byte) (parts_rest rest is.1) ∙ not_ten byte (record { ended = []; rest = rest }) is.0
+
+pub parts_joined : (lines : List (List ℕ)) (rest : List ℕ) → AreLines lines → parts_of (joined lines rest) ≡ record { ended = lines ++ (parts_of rest).ended; rest = (parts_of rest).rest }
+unfolding joined AreLines
+parts_joined [] rest are = refl
+parts_joined (line ∷ lines) rest are = parts_line line (joined lines rest) are.0 ∙ ap (λ (p : Parts). let q : Parts = record { ended = line ∷ p.ended; rest = p.rest } in q) (parts_joined lines rest are.1)
+
+-- what bytes are cut into is these bytes again, and no line has an LF
+rejoined : (byte : ℕ) (ended : List (List ℕ)) (rest bytes : List ℕ) → joined ended rest ≡ bytes → joined (first_longer byte ended rest).ended (first_longer byte ended rest).rest ≡ byte ∷ bytes
+unfolding joined
+rejoined byte [] rest bytes is = ap (λ (l : List ℕ). byte ∷ l) is
+rejoined byte (line ∷ lines) rest bytes is = ap (λ (l : List ℕ). byte ∷ l) is
+
+abbrev one_more : Bool → ℕ → Parts → Parts
+one_more b byte parts = (if b then record { ended = [] ∷ parts.ended; rest = parts.rest } else first_longer byte parts.ended parts.rest)
+
+whole_more : (b : Bool) (byte : ℕ) (parts : Parts) (bytes : List ℕ) → (byte == 10) ≡ b → joined parts.ended parts.rest ≡ bytes → joined (one_more b byte parts).ended (one_more b byte parts).rest ≡ byte ∷ bytes
+unfolding joined
+whole_more true byte parts bytes e is = let same : 10 ≡ byte = grind (arith, nat_tests) in ap (λ (l : List ℕ). 10 ∷ l) is ∙ ap (λ (n : ℕ). n ∷ bytes) same
+whole_more false byte parts bytes e is = rejoined byte parts.ended parts.rest bytes is
+
+pub parts_whole : (bytes : List ℕ) → joined (parts_of bytes).ended (parts_of bytes).rest ≡ bytes
+unfolding parts_of joined
+parts_whole [] = refl
+parts_whole (byte ∷ bytes) = whole_more (byte == 10) byte (parts_of bytes) bytes refl (parts_whole bytes)
+
+-- in which no line has an LF
+pub record HaveNone (parts : Parts) : Type 0 where
+  pub ended : AreLines parts.ended
+  pub rest : IsLine parts.rest
+
+longer_lines : (byte : ℕ) (ended : List (List ℕ)) (rest : List ℕ) → (byte ≡ 10 → ⊥) → AreLines ended → IsLine rest → HaveNone (first_longer byte ended rest)
+unfolding AreLines IsLine
+longer_lines byte [] rest apart are is = record { ended = tt; rest = (apart, is) }
+longer_lines byte (line ∷ lines) rest apart are is = record { ended = ((apart, are.0), are.1); rest = is }
+
+none_more : (b : Bool) (byte : ℕ) (parts : Parts) → (byte == 10) ≡ b → HaveNone parts → HaveNone (one_more b byte parts)
+unfolding AreLines IsLine
+none_more true byte parts e h = record { ended = (tt, h.ended); rest = h.rest }
+none_more false byte parts e h = longer_lines byte parts.ended parts.rest (λ same. let on : (byte == 10) ≡ true = grind (arith, nat_tests) in absurd (cc (sym e ∙ on))) h.ended h.rest
+
+pub parts_have_none : (bytes : List ℕ) → HaveNone (parts_of bytes)
+unfolding parts_of AreLines IsLine
+parts_have_none [] = record { ended = tt; rest = tt }
+parts_have_none (byte ∷ bytes) = none_more (byte == 10) byte (parts_of bytes) refl (parts_have_none bytes)
+
+-- so it is with the rest as one more line
+pub all_lines : (ended : List (List ℕ)) (rest : List ℕ) → AreLines ended → IsLine rest → AreLines (ended ++ last_line rest)
+unfolding AreLines
+all_lines [] [] are is = tt
+all_lines [] (byte ∷ rest) are is = (is, tt)
+all_lines (line ∷ lines) rest are is = (are.0, all_lines lines rest are.1 is)

@@ -24,9 +24,14 @@ FitsWrite reply.Done = Unit {0}
 FitsWrite (reply.Full live waste) = Unit {0}
 FitsWrite r = IsHalt r
 
+-- a read gives a content of this kind
+abbrev pub FitsBytes : (Block → Type 0) → Reply → Type 0
+FitsBytes P (reply.Bytes page) = P page
+FitsBytes P r = IsHalt r
+
+-- a read gives this content
 abbrev pub FitsRead : Block → Reply → Type 0
-FitsRead content (reply.Bytes page) = page ≡ content
-FitsRead content r = IsHalt r
+FitsRead content r = FitsBytes (λ page. page ≡ content) r
 
 abbrev pub FitsDiscard : Reply → Type 0
 FitsDiscard reply.Done = Unit {0}
@@ -61,16 +66,25 @@ FitsStat r = ⊥
 abbrev pub has_label : List ℕ → ℕ → Bool
 has_label unused label = list_any (λ k. k == label) unused
 
--- the reply fits the command over so many blocks, where these labels of policies are unused
-unfoldable pub FitsReply : ℕ → List ℕ → BlockArray → Command → Reply → Type 0
-FitsReply blocks unused a (Write block number) r = OnBlock blocks block r (FitsWrite r)
-FitsReply blocks unused a (Fill block page) r = OnBlock blocks block r (FitsWrite r)
-FitsReply blocks unused a (Read block) r = OnBlock blocks block r (FitsRead (last a block) r)
-FitsReply blocks unused a (Discard block) r = OnBlock blocks block r (FitsDiscard r)
-FitsReply blocks unused a (Copy from to n) r = FitsCopy blocks from to n r
-FitsReply blocks unused a Flush r = (r ≡ reply.Done) ⊎ (r ≡ reply.Fault)
-FitsReply blocks unused a Scan r = FitsScan r
-FitsReply blocks unused a Stat r = FitsStat r
-FitsReply blocks unused a (Policy label) r = r ≡ (if has_label unused label then reply.Done else reply.NoPolicy)
-FitsReply blocks unused a (Tune n) r = r ≡ reply.Done
-FitsReply blocks unused a Tick r = r ≡ reply.Done
+-- the reply fits the command over so many blocks, where these labels of policies are unused, and where a read of a block may give
+-- these contents
+unfoldable pub FitsWith : (ℕ → Block → Type 0) → ℕ → List ℕ → Command → Reply → Type 0
+FitsWith Reads blocks unused (Write block number) r = OnBlock blocks block r (FitsWrite r)
+FitsWith Reads blocks unused (Fill block page) r = OnBlock blocks block r (FitsWrite r)
+FitsWith Reads blocks unused (Read block) r = OnBlock blocks block r (FitsBytes (Reads block) r)
+FitsWith Reads blocks unused (Discard block) r = OnBlock blocks block r (FitsDiscard r)
+FitsWith Reads blocks unused (Copy from to n) r = FitsCopy blocks from to n r
+FitsWith Reads blocks unused Flush r = (r ≡ reply.Done) ⊎ (r ≡ reply.Fault)
+FitsWith Reads blocks unused Scan r = FitsScan r
+FitsWith Reads blocks unused Stat r = FitsStat r
+FitsWith Reads blocks unused (Policy label) r = r ≡ (if has_label unused label then reply.Done else reply.NoPolicy)
+FitsWith Reads blocks unused (Tune n) r = r ≡ reply.Done
+FitsWith Reads blocks unused Tick r = r ≡ reply.Done
+
+-- over an array a read gives the last content of its block
+abbrev pub FitsReply : ℕ → List ℕ → BlockArray → Command → Reply → Type 0
+FitsReply blocks unused a command r = FitsWith (λ block page. page ≡ last a block) blocks unused command r
+
+-- whatever the blocks hold: a read may give any content
+abbrev pub FitsPlain : ℕ → List ℕ → Command → Reply → Type 0
+FitsPlain blocks unused command r = FitsWith (λ block page. Unit {0}) blocks unused command r

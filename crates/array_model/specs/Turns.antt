@@ -1,6 +1,7 @@
 -- Lines, the turns that answer them, and what a crash within a session may leave.
 use Rattle.std.specs.Prelude.{◌≡◌, ◌≢◌, ℕ, ◌+◌, ◌==◌, if◌then◌else◌, Bool, true, List, [], ◌∷◌, ◌++◌, length, Option, Some, None, map, take}
 use Rattle.page_device.specs.Block.{Block}
+use Rattle.page_device.specs.Counts.{raised}
 use Rattle.page_device.specs.declared.device.LogEntry.{LogEntry}
 use Rattle.page_device.specs.Disk.{DeviceState, LeftAt}
 use Rattle.page_device.specs.Runs.{Runs, all_calls, after_turns, ended, at_work, at_moment}
@@ -11,8 +12,8 @@ use Rattle.trace_text.specs.declared.reply.Reply.TheVariants as reply
 use Rattle.trace_text.specs.Grammar.{IsCommand}
 use Rattle.trace_text.specs.Texts.{text_of}
 use Rattle.array_model.specs.Images.{Mode}
-use Rattle.array_model.specs.Array.{BlockArray, array_after, flushed, writes, MayBeLeft}
-use Rattle.array_model.specs.Replies.{FitsReply}
+use Rattle.array_model.specs.Array.{BlockArray, array_after, flushed, last, writes, MayBeLeft}
+use Rattle.array_model.specs.Replies.{FitsWith}
 
 -- lines, each with its LF, and then a rest
 unfoldable pub joined : List (List ℕ) → List ℕ → List ℕ
@@ -49,9 +50,13 @@ pub record RunState : Type 0 where
   pub array : BlockArray
   pub unused : List ℕ
 
+-- the reply fits what was asked for, where a read of a block may give these contents
+abbrev pub FitsAskedWith : (ℕ → Block → Type 0) → Rules → List ℕ → Asked → Reply → Type 0
+FitsAskedWith Reads rules unused bad r = r ≡ reply.Bad
+FitsAskedWith Reads rules unused (known command) r = FitsWith Reads rules.blocks unused command r
+
 abbrev pub FitsAsked : Rules → RunState → Asked → Reply → Type 0
-FitsAsked rules s bad r = r ≡ reply.Bad
-FitsAsked rules s (known command) r = FitsReply rules.blocks s.unused s.array command r
+FitsAsked rules s asked r = FitsAskedWith (λ block page. page ≡ last s.array block) rules s.unused asked r
 
 -- the labels without the first that is this one
 unfoldable pub without_label : List ℕ → ℕ → List ℕ
@@ -81,10 +86,10 @@ pub record Turn : Type 0 where
 abbrev pub after_turn : Rules → RunState → Turn → RunState
 after_turn rules s turn = record { array = array_after_asked rules s.array turn.asked turn.answer; unused = unused_after s.unused turn.asked turn.answer }
 
--- the turns are a run: each reply fits its line over what the turns before it leave, and each number counts the device calls so far
+-- the turns are a run: each reply fits its line over what the turns before it leave, and each number counts the device calls so far, and stands still at the end of a `u64`
 unfoldable pub IsRun : Rules → RunState → ℕ → List Turn → Type 0
 IsRun rules s at [] = Unit {0}
-IsRun rules s at (turn ∷ turns) = Asks rules turn.line turn.asked × FitsAsked rules s turn.asked turn.answer × (turn.at ≡ at + length turn.calls) × IsRun rules (after_turn rules s turn) turn.at turns
+IsRun rules s at (turn ∷ turns) = Asks rules turn.line turn.asked × FitsAsked rules s turn.asked turn.answer × (turn.at ≡ raised at (length turn.calls)) × IsRun rules (after_turn rules s turn) turn.at turns
 
 -- the texts of the replies
 unfoldable pub texts : List Turn → List ℕ
@@ -94,10 +99,35 @@ texts (turn ∷ turns) = text_of turn.at turn.answer ++ texts turns
 abbrev pub lines_of : List Turn → List (List ℕ)
 lines_of turns = map (λ (turn : Turn). turn.line) turns
 
--- the lines of a whole input: its parts that end with LF, and a rest that is not empty
-pub data AreLinesOf (bytes : List ℕ) (lines : List (List ℕ)) : Type 0 where
-  all_ended : bytes ≡ joined lines [] → AreLinesOf bytes lines
-  last_open : (front : List (List ℕ)) (rest : List ℕ) → lines ≡ front ++ rest ∷ [] → rest ≢ [] → bytes ≡ joined front rest → AreLinesOf bytes lines
+-- the parts of some bytes that end with LF, each without it, and the rest behind them
+pub record Parts : Type 0 where
+  pub ended : List (List ℕ)
+  pub rest : List ℕ
+
+-- one more byte in front, which is no LF: it stands in the first part
+abbrev pub first_longer : ℕ → List (List ℕ) → List ℕ → Parts
+first_longer byte [] rest = record { ended = []; rest = byte ∷ rest }
+first_longer byte (line ∷ lines) rest = record { ended = (byte ∷ line) ∷ lines; rest = rest }
+
+abbrev pub one_longer : ℕ → Parts → Parts
+one_longer byte parts = (if byte == 10 then record { ended = [] ∷ parts.ended; rest = parts.rest } else first_longer byte parts.ended parts.rest)
+
+unfoldable pub parts_of : List ℕ → Parts
+parts_of [] = record { ended = []; rest = [] }
+parts_of (byte ∷ bytes) = one_longer byte (parts_of bytes)
+
+-- the lines of some bytes that end with LF
+abbrev pub ended_lines : List ℕ → List (List ℕ)
+ended_lines bytes = (parts_of bytes).ended
+
+-- a rest that is not empty is one more line
+abbrev pub last_line : List ℕ → List (List ℕ)
+last_line [] = []
+last_line (byte ∷ bytes) = (byte ∷ bytes) ∷ []
+
+-- the lines of a whole input
+abbrev pub lines_in : List ℕ → List (List ℕ)
+lines_in bytes = (parts_of bytes).ended ++ last_line (parts_of bytes).rest
 
 -- what a session does: it answers lines, and may close by a flush, which is done or not
 pub data Work : Type 0 where
@@ -145,6 +175,15 @@ abbrev pub SurvivesCrash : Mode → Rules → BlockArray → DeviceState → Lis
 SurvivesCrash mode rules a start works = (k : ℕ) (image : List Block) → LeftAt start (calls_of_works mode rules works) k image
     → MayLeave mode rules (array_after_works mode rules a (take (ended_works mode rules k works) works)) (work_at mode rules k works) image
 
+-- the contents that a block may read after a crash at the moment `k`: those after the works that had ended then, and the one that the
+-- work which was being done writes to it, if any
+abbrev pub content_list : Option Block → List Block
+content_list None = []
+content_list (Some content) = content ∷ []
+
+abbrev pub contents_at : Mode → Rules → BlockArray → List Work → ℕ → ℕ → List Block
+contents_at mode rules a works k block = (array_after_works mode rules a (take (ended_works mode rules k works) works)).lists block ++ content_list (work_writes (array_after_works mode rules a (take (ended_works mode rules k works) works)) (work_at mode rules k works) block)
+
 -- so it is where within each work it is so
 pub survives : (mode : Mode) (rules : Rules) (a : BlockArray) (start : DeviceState) (works : List Work) → WorksLeave mode rules a start works → SurvivesCrash mode rules a start works
 survives mode rules a start works run k image left = at_moment calls_of (array_after_work rules) (MayLeave mode rules) a start works k run image left
@@ -153,12 +192,3 @@ survives mode rules a start works run k image left = at_moment calls_of (array_a
 unfoldable pub works_of : List Turn → List Work
 works_of [] = []
 works_of (turn ∷ turns) = answered turn ∷ works_of turns
-
--- the run state after turns, and the number of the last one
-unfoldable pub state_after_turns : Rules → RunState → List Turn → RunState
-state_after_turns rules s [] = s
-state_after_turns rules s (turn ∷ turns) = state_after_turns rules (after_turn rules s turn) turns
-
-unfoldable pub at_after : ℕ → List Turn → ℕ
-at_after at [] = at
-at_after at (turn ∷ turns) = at_after turn.at turns

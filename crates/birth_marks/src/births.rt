@@ -183,7 +183,7 @@ fn room_for(
 }
 
 impl Births {
-    /// Nothing recorded, and no room. It takes no memory. Constant.
+    /// Nothing recorded, and no room. It takes no memory, which no clause says. Constant.
     pub fn new(alloc: Global) -> Births
         ensures recorded { (s : Slot) → recorded_in result s ≡ false }
         ensures spare { result.spare ≡ 0 }
@@ -200,7 +200,7 @@ impl Births {
     /// Makes room for at least so many further changes: the spare number rises to this, and falls no lower. It is the only call
     /// that takes memory. Constant where there is room already; else all that is kept may move.
     ///
-    /// `NoMemory` where no memory is found, or after 2^64 changes. Nothing is changed then.
+    /// `NoMemory` where no memory is found, or after 2^64 changes. Nothing is changed then. It does not say that there is memory.
     pub fn reserve(&mut self, changes: u32) -> Result<(), NoMemory>
         ensures same { Same self.old self.new }
         ensures ok { OnOk result (self.new.spare ≡ max self.old.spare changes) }
@@ -224,7 +224,8 @@ impl Births {
     }
 
     /// Whether no content that a crash may leave has this value at the slot: the slot was changed since its page was settled, and
-    /// had another value then and at each try to write the page since. Constant.
+    /// had another value then and at each try to write the page since. Constant. Of a slot that is not recorded it does not say
+    /// that a crash may leave the value.
     pub fn unborn(&self, slot: Slot, value: u32) -> bool
         ensures { result ≡ is_unborn_in self.now slot value }
     {
@@ -310,7 +311,8 @@ impl Births {
         }
     }
 
-    /// A write of the page is about to be made. It may be taken even where it fails, so what its slots have is met. Constant.
+    /// A write of the page is about to be made. It may be taken even where it fails, so what its slots have is met. Constant. It does
+    /// not say that the write is made.
     pub fn tried(&mut self, at: u32)
         ensures tried { TriedAt self.old self.new at }
         ensures spare { self.new.spare ≡ self.old.spare }
@@ -318,7 +320,7 @@ impl Births {
         self.pages.tried(at, self.moment);
     }
 
-    /// The write of the page succeeded. Constant.
+    /// The write of the page succeeded. Constant. Of a page on which no slot is recorded it does not say that the write is kept.
     pub fn written(&mut self, at: u32)
         ensures written { WrittenAt self.old self.new at }
         ensures spare { self.new.spare ≡ self.old.spare }
@@ -329,7 +331,8 @@ impl Births {
     /// A barrier was made: the pages that were written with no change since are settled, and their slots are recorded no longer.
     ///
     /// It costs a step for each page that was written since the last barrier and had a recorded slot, and the slots of those that are
-    /// settled, with the values that they met. Other pages cost nothing.
+    /// settled, with the values that they met. Other pages cost nothing. No clause says that what is recorded no longer takes no memory:
+    /// its room goes to later changes.
     pub fn fixed(&mut self)
         ensures fixed { FixedAll self.old self.new }
         ensures spare { self.new.spare ≡ self.old.spare }

@@ -1,6 +1,7 @@
 -- What a store keeps, as plain data.
 use Rattle.std.specs.Prelude.{◌≡◌, ℕ, ◌+◌, ◌-◌, ◌/◌, ◌<◌, ◌≤◌, ◌^◌, Bool, true, List, length, slice_index_or}
 use Rattle.page_device.specs.Block.{Block}
+use Rattle.page_device.specs.Counts.{raised}
 use Rattle.page_layout.specs.Numbers.{entry_of}
 use Rattle.page_layout.specs.Shape.{ShapeView, IsValid, map_pages, count_pages, map_place, count_place}
 use Rattle.page_layout.specs.Tables.{page_of}
@@ -45,10 +46,10 @@ cached_count t p = entry_of (page_of t.counts (count_index p)) (count_place p)
 abbrev pub is_pending : CachedTables → ℕ → Bool
 is_pending t j = slice_index_or t.pending j true
 
--- a count of calls rose by so many; it stands still at the end of a `u64`
+-- a count of calls rose by so many; it stands still at the end of a `u64`, and nowhere else
 pub record CountsCalls (made calls later : ℕ) : Type 0 where
   pub never_falls : calls ≤ later
-  pub counted : later + 1 < 2 ^ 64 → later ≡ calls + made
+  pub counted : calls < 2 ^ 64 → later ≡ raised calls made
 
 -- as many pages as the shape says
 pub record HasPages (t : CachedTables) : Type 0 where
@@ -67,6 +68,13 @@ waste t = counted_of (cached_count t) t.shape.pages - mapped_of (cached_map t) t
 abbrev pub pending_pages : CachedTables → ℕ
 pending_pages t = count_below (is_pending t) (map_pages t.shape)
 
--- what a store tells of itself; this body postpones no release
-abbrev pub stat_of : CoreView → Stat
-stat_of core = record { live = live_pages core.tables; waste = waste core.tables; postponed = 0; dirty = pending_pages core.tables }
+-- What is known of a store from outside: the shape of its image, the number of its device calls so far, and what it tells of
+-- itself. This body postpones no release.
+abbrev pub shape_in : CoreView → ShapeView
+shape_in core = core.tables.shape
+
+abbrev pub calls_in : CoreView → ℕ
+calls_in core = core.calls
+
+abbrev pub stat_in : CoreView → Stat
+stat_in core = record { live = live_pages core.tables; waste = waste core.tables; postponed = 0; dirty = pending_pages core.tables }

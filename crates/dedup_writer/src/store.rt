@@ -2,7 +2,7 @@
 ghost use Rattle.std.specs.Prelude.{◌≡◌, ℕ, ◌+◌, ◌-◌, ◌<◌, ◌≤◌, true, false, length, replicate, IsOk, IsErr, IfOk, IfErr, OnOk, IfSome, IfNone, Some};
 ghost use Rattle.page_device.specs.Block.{zero_block};
 ghost use Rattle.page_device.specs.Disk.{at_rest};
-ghost use Rattle.page_device.specs.Meaning.{Meaning, HasCause};
+ghost use Rattle.page_device.specs.Meaning.{Meaning, HasCause, IsCounted};
 ghost use Rattle.page_layout.specs.Numbers.{entry_of};
 ghost use Rattle.page_layout.specs.Shape.{IsValid, total, map_pages, count_pages, map_place, count_place, data_page};
 ghost use Rattle.page_layout.specs.Tables.{IsMapPage, shape_of, page_of};
@@ -141,9 +141,9 @@ fn first_free(shape: &Shape, counts: &SparsePages, next: u32) -> u32
 }
 
 impl Store {
-    ghost use Rattle.dedup_writer.specs.Core.{CoreView, cached_map, cached_count, count_index, name_in, stat_of, waste};
-    ghost use Rattle.dedup_writer.specs.Stands.{StandsFor, AreCached};
-    ghost use Rattle.dedup_writer.specs.Calls.{StoreCall, after_write, after_discard, after_flush, WriteCause, ReadCause, DiscardCause, IsFull, CountsOne, NamesOne, Settles, AllCounted};
+    ghost use Rattle.dedup_writer.specs.Core.{CoreView, cached_map, cached_count, count_index, name_in, stat_in, shape_in, calls_in, waste};
+    ghost use Rattle.dedup_writer.specs.Stands.{StandsFor, AreCached, IsInStep};
+    ghost use Rattle.dedup_writer.specs.Calls.{Called, FlushCalled, after_write, after_discard, WriteCause, TableCause, IsFull, IsQuietIf, CountsOne, NamesOne, Settles, AllCounted};
 
     /// The store over an image of this shape, whose map pages and count pages these are, each in order, and of
     /// whose blocks so many are mapped. Makes no device call. Linear in the data pages, of which those in
@@ -159,11 +159,12 @@ impl Store {
         requires counts { length counts.items ≡ count_pages shape }
         requires entries { (j : ℕ) → j < map_pages shape → IsMapPage shape j (page_of maps.items j) }
         requires mapped { mapped ≡ mapped_of (name_in maps.items) shape.blocks }
-        ensures shape { IfOk result (λ store. store.tables.shape ≡ shape) }
-        ensures calls { IfOk result (λ store. store.calls ≡ 0) }
+        ensures shape { IfOk result (λ store. shape_in store ≡ shape) }
+        ensures calls { IfOk result (λ store. calls_in store ≡ 0) }
         ensures stands { IfOk result (λ store. (mode : Mode) (d : Meaning) → d.honest ≡ true → d.tells_pages ≡ true → length d.state.fixed ≡ d.pages
             → d.state ≡ at_rest d.state.fixed → shape_of d.state.fixed ≡ shape → IsGood mode d.state.fixed → AreCached d.state.fixed shape maps.items counts.items
             → StandsFor mode store d (array_start d.state.fixed)) }
+        ensures in_step { IfOk result (λ store. (d : Meaning) → d.state ≡ at_rest d.state.fixed → AreCached d.state.fixed shape maps.items counts.items → IsInStep store d) }
     {
         let totals = opened(&shape, &counts, mapped);
         let pending = no_flags(alloc, number_of_map_pages(&shape))?;
@@ -180,14 +181,14 @@ impl Store {
 
     /// The shape of its image.
     pub fn shape(&self) -> Shape
-        ensures { result ≡ self.now.tables.shape }
+        ensures { result ≡ shape_in self.now }
     {
         self.shape
     }
 
     /// Device writes and barriers since it was opened, failed ones too. Stands still at its end.
     pub fn calls(&self) -> u64
-        ensures { result ≡ self.now.calls }
+        ensures { result ≡ calls_in self.now }
     {
         self.calls
     }
@@ -196,7 +197,7 @@ impl Store {
     /// them, no postponed release, since nothing is released, and the map pages that have yet to be written.
     /// Constant.
     pub fn stat(&self) -> Stat
-        ensures { result ≡ stat_of self.now }
+        ensures { result ≡ stat_in self.now }
     {
         Stat {
             live: self.totals.live,
@@ -217,15 +218,15 @@ impl Store {
         block: u32,
         from: &Page,
     ) -> Result<(), Refusal>
-        requires { total self.old.tables.shape ≤ (D.seen device.old).pages }
+        requires { total (shape_in self.old) ≤ (D.seen device.old).pages }
         ensures pages { (D.seen device.new).pages ≡ (D.seen device.old).pages }
         ensures never_falls { (D.seen device.old).faults ≤ (D.seen device.new).faults }
-        ensures range { self.old.tables.shape.blocks ≤ block → result ≡ Err Refusal.Range }
+        ensures range { (shape_in self.old).blocks ≤ block → result ≡ Err Refusal.Range }
         ensures cause { IfErr result (λ why. WriteCause why block self.old (D.seen device.old) (D.seen device.new)) }
-        ensures full { block < self.old.tables.shape.blocks → maps self.old.tables.shape.version from.now ≡ true → AllCounted self.old → IfErr result IsFull × IsErr result }
-        ensures shape { self.new.tables.shape ≡ self.old.tables.shape }
-        ensures array { (mode : Mode) (a : BlockArray) → StandsFor mode self.old (D.seen device.old) a
-            → StoreCall mode self.old self.new (D.seen device.old) (D.seen device.new) a (after_write result self.old.tables.shape.version a block from.now) (writes_one block from.now) }
+        ensures full { block < (shape_in self.old).blocks → maps (shape_in self.old).version from.now ≡ true → AllCounted self.old → IfErr result IsFull × IsErr result }
+        ensures shape { shape_in self.new ≡ shape_in self.old }
+        ensures quiet { IsQuietIf result self.old self.new (D.seen device.old) (D.seen device.new) }
+        ensures call { Called self.old self.new (D.seen device.old) (D.seen device.new) (λ a. after_write result (shape_in self.old).version a block from.now) (λ _. writes_one block from.now) }
     {
         let shape = self.shape();
         if block >= shape.blocks {
@@ -253,15 +254,15 @@ impl Store {
     ///
     /// Costs up to two device calls, and none where the block is not mapped.
     pub fn discard<D: Device>(&mut self, device: &mut D, block: u32) -> Result<(), Refusal>
-        requires { total self.old.tables.shape ≤ (D.seen device.old).pages }
+        requires { total (shape_in self.old) ≤ (D.seen device.old).pages }
         ensures pages { (D.seen device.new).pages ≡ (D.seen device.old).pages }
         ensures never_falls { (D.seen device.old).faults ≤ (D.seen device.new).faults }
-        ensures range { self.old.tables.shape.blocks ≤ block → result ≡ Err Refusal.Range }
-        ensures cause { IfErr result (λ why. DiscardCause why block self.old) }
-        ensures done { block < self.old.tables.shape.blocks → IsOk result }
-        ensures shape { self.new.tables.shape ≡ self.old.tables.shape }
-        ensures array { (mode : Mode) (a : BlockArray) → StandsFor mode self.old (D.seen device.old) a
-            → StoreCall mode self.old self.new (D.seen device.old) (D.seen device.new) a (after_discard result a block) (writes_one block zero_block) }
+        ensures range { (shape_in self.old).blocks ≤ block → result ≡ Err Refusal.Range }
+        ensures cause { IfErr result (λ why. TableCause why block self.old (D.seen device.old) (D.seen device.new)) }
+        ensures quiet { IsQuietIf result self.old self.new (D.seen device.old) (D.seen device.new) }
+        ensures done { block < (shape_in self.old).blocks → IsOk result }
+        ensures shape { shape_in self.new ≡ shape_in self.old }
+        ensures call { Called self.old self.new (D.seen device.old) (D.seen device.new) (λ a. after_discard result a block) (λ _. writes_one block zero_block) }
     {
         if block >= self.shape().blocks {
             return Err(Refusal::Range);
@@ -281,14 +282,14 @@ impl Store {
         block: u32,
         into: &mut Page,
     ) -> Result<(), Refusal>
-        requires { total self.old.tables.shape ≤ (D.seen device.old).pages }
+        requires { total (shape_in self.old) ≤ (D.seen device.old).pages }
         ensures pages { (D.seen device.new).pages ≡ (D.seen device.old).pages }
         ensures never_falls { (D.seen device.old).faults ≤ (D.seen device.new).faults }
-        ensures range { self.old.tables.shape.blocks ≤ block → result ≡ Err Refusal.Range }
-        ensures cause { IfErr result (λ why. ReadCause why block self.old (D.seen device.old) (D.seen device.new)) }
+        ensures range { (shape_in self.old).blocks ≤ block → result ≡ Err Refusal.Range }
+        ensures cause { IfErr result (λ why. TableCause why block self.old (D.seen device.old) (D.seen device.new)) }
+        ensures quiet { IsQuietIf result self.old self.new (D.seen device.old) (D.seen device.new) }
         ensures same { self.new ≡ self.old }
-        ensures array { (mode : Mode) (a : BlockArray) → StandsFor mode self.old (D.seen device.old) a
-            → StoreCall mode self.old self.new (D.seen device.old) (D.seen device.new) a a writes_nothing }
+        ensures call { Called self.old self.new (D.seen device.old) (D.seen device.new) (λ a. a) (λ _. writes_nothing) }
         ensures bytes { (mode : Mode) (a : BlockArray) → StandsFor mode self.old (D.seen device.old) a → OnOk result (into.new ≡ last a block) }
     {
         if block >= self.shape().blocks {
@@ -312,12 +313,11 @@ impl Store {
     ///
     /// Looks at one flag a map page, and writes those that are pending.
     pub fn flush<D: Device>(&mut self, device: &mut D) -> Result<(), Failed>
-        requires { total self.old.tables.shape ≤ (D.seen device.old).pages }
+        requires { total (shape_in self.old) ≤ (D.seen device.old).pages }
         ensures pages { (D.seen device.new).pages ≡ (D.seen device.old).pages }
         ensures cause { HasCause result (D.seen device.old) (D.seen device.new) }
-        ensures shape { self.new.tables.shape ≡ self.old.tables.shape }
-        ensures array { (mode : Mode) (a : BlockArray) → StandsFor mode self.old (D.seen device.old) a
-            → StoreCall mode self.old self.new (D.seen device.old) (D.seen device.new) a (after_flush result a) writes_nothing }
+        ensures shape { shape_in self.new ≡ shape_in self.old }
+        ensures call { FlushCalled result self.old self.new (D.seen device.old) (D.seen device.new) }
     {
         let map_pages = self.map_pages();
         for index in 0..map_pages {

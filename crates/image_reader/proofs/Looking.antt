@@ -2,15 +2,13 @@
 use Rattle.std.proofs.Common.{◌≡◌, ℕ, ◌-◌, true, List, Some, length, replicate, refl, sym, ◌∙◌, ap, subst, arith, slice_get}
 use Rattle.std.proofs.lemmas.Option.{get_or_from_slice_get}
 use Rattle.page_device.specs.Block.{Block, zero_block}
-use Rattle.page_device.specs.Disk.{DeviceState, newest, at_rest, overlay, with_room}
-use Rattle.page_device.specs.Meaning.{Meaning, SameKind, OneRead, IsUntouched, Grows}
+use Rattle.page_device.specs.Disk.{DeviceState, newest, with_room}
+use Rattle.page_device.specs.Meaning.{Meaning, OneRead, IsUntouched, Grows}
+use Rattle.page_device.specs.Moments.{kind_then}
 use Rattle.page_device.proofs.Views.{state_by_none}
 use Rattle.page_layout.specs.Tables.{page_of}
 use Rattle.page_device.specs.Possible.{length-overlay}
 use Rattle.image_reader.specs.Looked.{Looked, Holds}
-
-same_kind : (a b c : Meaning) → SameKind a b → SameKind b c → SameKind a c
-same_kind a b c h k = record { honest = k.honest ∙ h.honest; tells_pages = k.tells_pages ∙ h.tells_pages; tells_log = k.tells_log ∙ h.tells_log; tells_reads = k.tells_reads ∙ h.tells_reads }
 
 pub looked_none : (d : Meaning) → Looked d d
 looked_none d = record { state = λ _. refl; pages = λ _. refl; log = λ _. refl; kind = record { honest = refl; tells_pages = refl; tells_log = refl; tells_reads = refl } }
@@ -20,7 +18,7 @@ looked_then a b c h k = record {
   state = λ t. k.state (h.kind.tells_pages ∙ t) ∙ h.state t;
   pages = λ t. k.pages (h.kind.tells_pages ∙ t) ∙ h.pages t;
   log = λ t. k.log (h.kind.tells_log ∙ t) ∙ h.log t;
-  kind = same_kind a b c h.kind k.kind;
+  kind = kind_then a b c h.kind k.kind;
 }
 
 pub looked_read : (a b : Meaning) → OneRead a b → Looked a b
@@ -51,8 +49,3 @@ held_before Says a b looked held = λ honest tells. subst (λ (s : DeviceState).
 -- as many pages
 pub pages_of : (d : Meaning) → length d.state.fixed ≡ d.pages → length (newest d.state) ≡ d.pages
 pages_of d same = length-overlay d.state.fixed d.state.since ∙ same
-
--- at rest the newest contents are the fixed ones
-pub newest_at_rest : (pages : List Block) → newest (at_rest pages) ≡ pages
-unfolding overlay
-newest_at_rest pages = refl

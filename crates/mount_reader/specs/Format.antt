@@ -1,40 +1,101 @@
 -- What formatting leaves.
-use Rattle.std.specs.Prelude.{◌≡◌, ◌⊎◌, ℕ, ◌<◌, ◌≤◌, true, List, Result, Ok}
+use Rattle.std.specs.Prelude.{◌≡◌, ◌⊎◌, ℕ, ◌-◌, ◌<◌, ◌≤◌, true, List, [], ◌∷◌, ◌++◌, length, replicate, slice_get, Some, Result, Ok}
 use Rattle.page_device.specs.Block.{Block, zero_block}
 use Rattle.page_device.specs.declared.error.Failed.{Failed}
-use Rattle.page_device.specs.Disk.{DeviceState, IsImage, newest}
+use Rattle.page_device.specs.Disk.{DeviceState, IsImage, MayHold, newest, at_rest, with_room}
 use Rattle.page_device.specs.Possible.{Only}
-use Rattle.page_device.specs.Meaning.{Meaning, Grows}
+use Rattle.page_device.specs.declared.device.End.TheVariants.{Done}
+use Rattle.page_device.specs.declared.device.LogEntry.{LogEntry}
+use Rattle.page_device.specs.declared.device.LogEntry.TheVariants.{Flush}
+use Rattle.page_device.specs.Meaning.{Meaning, SameKind, IsCounted}
 use Rattle.page_device.specs.Moments.{EachImage, Leaves}
-use Rattle.page_layout.specs.Shape.{ShapeView, IsSuperblock, total, first_data_page}
-use Rattle.page_layout.specs.Tables.{page_of, shape_of, IsFresh}
+use Rattle.page_layout.specs.Shape.{ShapeView, total, first_data_page}
+use Rattle.page_layout.specs.Tables.{page_of, shape_of, map_of, IsFresh}
+use Rattle.array_model.specs.Images.{IsTight, block_of}
 
--- a freshly formatted image of this shape
+-- a freshly formatted image of this shape: it is tight, no block is mapped, and each reads zeros
 pub record IsNew (shape : ShapeView) (image : List Block) : Type 0 where
   pub fresh : IsFresh image
   pub is : shape_of image ≡ shape
+  pub tight : IsTight image
+  pub unmapped : (block : ℕ) → block < shape.blocks → map_of image block ≡ 0
+  pub zeros : (block : ℕ) → block < shape.blocks → block_of image block ≡ zero_block
 
--- no image of any shape
+-- no image of any shape: page 0 is zeros
 abbrev pub IsUnformatted : List Block → Type 0
-IsUnformatted image = ¬ IsSuperblock (page_of image 0)
+IsUnformatted image = page_of image 0 ≡ zero_block
 
--- what a crash within formatting leaves: what was there before, no image at all, or the new one
-abbrev pub MayBePartway : ShapeView → DeviceState → List Block → Type 0
-MayBePartway shape before image = IsImage before image ⊎ IsUnformatted image ⊎ IsNew shape image
+-- each page of the image from this one on is one that the device might hold
+pub record IsOldFrom (page : ℕ) (before : DeviceState) (image : List Block) : Type 0 where
+  pub pages : length image ≡ length before.fixed
+  pub each : (k : ℕ) (block : Block) → page ≤ k → slice_get image k ≡ Some block → MayHold before k block
+
+-- what a crash within formatting leaves: an image of what was there, page 0 of zeros, or the new image; in each of them the data
+-- pages are old ones
+pub record MayBePartway (shape : ShapeView) (before : DeviceState) (image : List Block) : Type 0 where
+  pub is : IsImage before image ⊎ IsUnformatted image ⊎ IsNew shape image
+  pub data_kept : IsOldFrom (first_data_page shape) before image
+
+-- the new image over data pages that are old ones
+pub record IsLaidOut (shape : ShapeView) (before : DeviceState) (image : List Block) : Type 0 where
+  pub is_new : IsNew shape image
+  pub data_kept : IsOldFrom (first_data_page shape) before image
+
+-- after it there is the new image alone, and nothing is pending
+pub record HoldsNew (shape : ShapeView) (before after : DeviceState) : Type 0 where
+  pub images : EachImage (IsLaidOut shape before) after
+  pub rest : after ≡ at_rest after.fixed
+
+-- over whatever device: pages are written and barriers are made, and nothing else
+pub record OnlyWrites (old new : Meaning) : Type 0 where
+  pub grows : old.tells_log ≡ true → length old.log ≤ length new.log
+  pub reads : old.tells_reads ≡ true → new.reads ≡ old.reads
+  pub pages : new.pages ≡ old.pages
+  pub kind : SameKind old new
+
+-- the last call was a barrier that was done, and some call came before it
+pub record EndsFlushed (old new : Meaning) : Type 0 where
+  pub front : List LogEntry
+  pub made : length old.log < length front
+  pub log : new.log ≡ front ++ Flush Done ∷ []
 
 -- the pages of a device are written
 pub record LaysOut (shape : ShapeView) (result : Result Unit Failed) (old new : Meaning) : Type 0 where
   pub leaves : Leaves old new (MayBePartway shape old.state)
-  pub done : result ≡ Ok tt → EachImage (IsNew shape) new.state
+  pub done : result ≡ Ok tt → HoldsNew shape old.state new.state
+
+-- what may be held from this page on might be held before
+pub record KeepsFrom (page : ℕ) (before after : DeviceState) : Type 0 where
+  pub pages : length after.fixed ≡ length before.fixed
+  pub each : (k : ℕ) (block : Block) → page ≤ k → MayHold after k block → MayHold before k block
+
+-- page 0 is zeros, and the data pages are old ones
+pub record IsCleared (shape : ShapeView) (before : DeviceState) (image : List Block) : Type 0 where
+  pub unformatted : IsUnformatted image
+  pub data_kept : IsOldFrom (first_data_page shape) before image
 
 -- the table pages are cleared on a device that holds no image
 pub record Clears (shape : ShapeView) (result : Result Unit Failed) (old new : Meaning) : Type 0 where
-  pub leaves : Leaves old new IsUnformatted
+  pub leaves : Leaves old new (IsCleared shape old.state)
+  pub kept : KeepsFrom (first_data_page shape) old.state new.state
   pub superblock : Only new.state 0 zero_block
   pub tables : result ≡ Ok tt → (k : ℕ) → 1 ≤ k → k < first_data_page shape → page_of (newest new.state) k ≡ zero_block
 
--- what formatting does: room was made, and the pages were written; or there was none, and nothing was done
+-- the device once it has so many pages: those that came are zeros, and are fixed
+abbrev pub with_pages : Meaning → ℕ → Meaning
+with_pages old pages = record old { pages = pages; state = with_room old.state (replicate (pages - old.pages) zero_block) }
+
+-- what formatting does: room is made where there are too few pages, and then the pages of the image are written
 pub record Formats (shape : ShapeView) (old new : Meaning) : Type 0 where
-  pub begun : Meaning
-  pub grown : Grows (total shape) old begun
-  pub leaves : begun.honest ≡ true → begun.tells_pages ≡ true → Leaves begun new (MayBePartway shape begun.state)
+  pub enough : total shape ≤ new.pages
+  pub never_fewer : old.pages ≤ new.pages
+  pub already : old.tells_pages ≡ true → total shape ≤ old.pages → new.pages ≡ old.pages
+  pub reads : old.tells_reads ≡ true → new.reads ≡ old.reads
+  pub kind : SameKind old new
+  pub leaves : old.honest ≡ true → old.tells_pages ≡ true → Leaves (with_pages old new.pages) new (MayBePartway shape (with_pages old new.pages).state)
+
+-- a device was formatted
+pub record IsFormatted (shape : ShapeView) (old new : Meaning) : Type 0 where
+  pub formats : Formats shape old new
+  pub flushed : old.tells_log ≡ true → IsCounted new → EndsFlushed old new
+  pub holds : old.honest ≡ true → old.tells_pages ≡ true → HoldsNew shape (with_pages old new.pages).state new.state

@@ -1,12 +1,12 @@
 // A new image is laid out.
 ghost use Rattle.std.specs.Prelude.{◌≡◌, ◌↔◌, ◌⊎◌, ◌≤◌, ◌<◌, true, length, Ok, Err};
 ghost use Rattle.page_device.specs.Block.{zero_block};
-ghost use Rattle.page_device.specs.Meaning.{HasCause, IsUntouched, FaultRose};
-ghost use Rattle.page_device.specs.Moments.{EachImage};
+ghost use Rattle.page_device.specs.Meaning.{HasCause, IsUntouched, IsCounted};
 ghost use Rattle.page_device.specs.Possible.{Only};
 ghost use Rattle.page_layout.specs.Shape.{total};
+ghost use Rattle.page_device.specs.Meaning.{FaultRose};
 ghost use Rattle.dedup_writer.specs.Put.{PutsPage};
-ghost use Rattle.mount_reader.specs.Format.{IsNew, LaysOut, Clears, Formats};
+ghost use Rattle.mount_reader.specs.Format.{LaysOut, Clears, Formats, IsFormatted, OnlyWrites, EndsFlushed};
 
 use page_device::{Device, Failed, Page};
 use page_layout::{Shape, super_page};
@@ -37,7 +37,7 @@ fn put<D: Device>(device: &mut D, page: u32, from: &Page) -> Result<(), Failed>
 fn clear_tables<D: Device>(device: &mut D, shape: &Shape) -> Result<(), Failed>
     requires { total shape.now ≤ (D.seen device.old).pages }
     ensures cause { HasCause result (D.seen device.old) (D.seen device.new) }
-    ensures pages { (D.seen device.new).pages ≡ (D.seen device.old).pages }
+    ensures writes { OnlyWrites (D.seen device.old) (D.seen device.new) }
     ensures clears { (D.seen device.old).honest ≡ true → (D.seen device.old).tells_pages ≡ true → Only (D.seen device.old).state 0 zero_block → Clears shape.now result (D.seen device.old) (D.seen device.new) }
 {
     let zero = Page::zero();
@@ -56,6 +56,8 @@ fn lay_out<D: Device>(device: &mut D, shape: &Shape) -> Result<(), Failed>
     requires pages { total shape.now ≤ (D.seen device.old).pages }
     requires version { shape.now.version ≡ 1 }
     ensures cause { HasCause result (D.seen device.old) (D.seen device.new) }
+    ensures writes { OnlyWrites (D.seen device.old) (D.seen device.new) }
+    ensures flushed { result ≡ Ok tt → (D.seen device.old).tells_log ≡ true → IsCounted (D.seen device.new) → EndsFlushed (D.seen device.old) (D.seen device.new) }
     ensures lays_out { (D.seen device.old).honest ≡ true → (D.seen device.old).tells_pages ≡ true → LaysOut shape.now result (D.seen device.old) (D.seen device.new) }
 {
     match put(device, 0, &Page::zero()) {
@@ -76,8 +78,8 @@ fn lay_out<D: Device>(device: &mut D, shape: &Shape) -> Result<(), Failed>
 /// Formats a device: makes room for an image of so many blocks and data pages, of version 1, in which no
 /// block is mapped. Writes zeros to page 0, makes a barrier, writes zeros to every table page in rising
 /// order, makes a barrier, writes the superblock and makes a barrier; the data pages stay as they are. A
-/// crash within it leaves the old device, one that is not formatted, or the new image; after `Ok` there is
-/// the new image alone.
+/// crash within it leaves the old device, one whose page 0 is zeros, or the new image; after `Ok` there is
+/// the new image alone, and nothing is pending. It reads no page.
 ///
 /// `BadShape` comes before any device call. Linear in the table pages.
 pub fn format<D: Device>(blocks: u32, pages: u32, device: &mut D) -> Result<(), FormatError>
@@ -85,8 +87,8 @@ pub fn format<D: Device>(blocks: u32, pages: u32, device: &mut D) -> Result<(), 
     ensures nothing { result ≡ Err FormatError.BadShape → device.new ≡ device.old }
     ensures cause { result ≡ Err FormatError.Device → FaultRose (D.seen device.old) (D.seen device.new) }
     ensures never_falls { (D.seen device.old).faults ≤ (D.seen device.new).faults }
-    ensures formats { (result ≡ Err FormatError.BadShape → ⊥) → IsUntouched (D.seen device.old) (D.seen device.new) ⊎ Formats (record { blocks = blocks; pages = pages; version = 1 }) (D.seen device.old) (D.seen device.new) }
-    ensures done { result ≡ Ok tt → (D.seen device.old).honest ≡ true → (D.seen device.old).tells_pages ≡ true → EachImage (IsNew (record { blocks = blocks; pages = pages; version = 1 })) (D.seen device.new).state }
+    ensures failed { result ≡ Err FormatError.Device → IsUntouched (D.seen device.old) (D.seen device.new) ⊎ Formats (record { blocks = blocks; pages = pages; version = 1 }) (D.seen device.old) (D.seen device.new) }
+    ensures done { result ≡ Ok tt → IsFormatted (record { blocks = blocks; pages = pages; version = 1 }) (D.seen device.old) (D.seen device.new) }
 {
     let Ok(shape) = Shape::new(blocks, pages) else {
         return Err(FormatError::BadShape);

@@ -6,6 +6,8 @@ pub mod Meaning
 pub mod Images
 pub mod Possible
 pub mod Moments
+pub mod Gains
+pub mod Faults
 pub mod Runs
 pub mod Rebuilt
 pub mod Memory

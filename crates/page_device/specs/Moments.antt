@@ -51,7 +51,8 @@ each_at P s [] (suc k) h = h
 each_at P s (x ∷ xs) zero h = h.0
 each_at P s (x ∷ xs) (suc k) h = each_at P (after s x) xs k h.1
 
-kind_then : (a b c : Meaning) → SameKind a b → SameKind b c → SameKind a c
+-- one after another
+pub kind_then : (a b c : Meaning) → SameKind a b → SameKind b c → SameKind a c
 kind_then a b c h k = record { honest = k.honest ∙ h.honest; tells_pages = k.tells_pages ∙ h.tells_pages; tells_log = k.tells_log ∙ h.tells_log; tells_reads = k.tells_reads ∙ h.tells_reads }
 
 -- before the first call

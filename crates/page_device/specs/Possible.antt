@@ -1,13 +1,13 @@
 -- What a page may hold, call after call.
 use Rattle.std.specs.Prelude.{◌≡◌, ◌⊎◌, ℕ, ◌+◌, ◌<◌, ◌≤◌, List, [], ◌∷◌, ◌++◌, length, slice_get, slice_set, Some, refl}
-use Rattle.std.proofs.Common.{inl, inr, ⊎_elim, sym, ◌∙◌, subst, arith, length-set, length-append}
+use Rattle.std.proofs.Common.{inl, inr, ⊎_elim, sym, ◌∙◌, ap, subst, arith, length-set, length-append}
 use Rattle.std.proofs.lemmas.Option.{slice_get_within}
 use Rattle.std.proofs.lemmas.Bool.{cases_eq}
 use Rattle.page_device.specs.declared.device.End.TheVariants.{Done, Refused, Taken}
 use Rattle.page_device.specs.declared.device.LogEntry.{LogEntry}
 use Rattle.page_device.specs.declared.device.LogEntry.TheVariants.{Write, Flush}
 use Rattle.page_device.specs.Block.{Block}
-use Rattle.page_device.specs.Disk.{DeviceState, IsImage, MayHold, WasWritten, written, settled, newest, overlay, after, state_after}
+use Rattle.page_device.specs.Disk.{DeviceState, IsImage, MayHold, WasWritten, written, settled, newest, at_rest, overlay, after, state_after}
 use Rattle.page_device.specs.Images.{slice_get-set_within, slice_get-set_other}
 
 -- the newest content is one of them
@@ -98,6 +98,11 @@ overlay-append pages (x ∷ xs) ys = overlay-append (slice_set pages x.0 x.1) xs
 pub newest_written : (s : DeviceState) (page : ℕ) (block : Block) → newest (written s page block) ≡ slice_set (newest s) page block
 unfolding overlay
 newest_written s page block = overlay-append s.fixed s.since ((page, block) ∷ [])
+
+-- with nothing pending the newest contents are the fixed ones
+pub newest_at_rest : (s : DeviceState) → s ≡ at_rest s.fixed → newest s ≡ s.fixed
+unfolding overlay
+newest_at_rest s rest = ap newest rest
 
 -- a barrier leaves no content that could not be there before it
 pub settled_holds : (s : DeviceState) (page : ℕ) (block : Block) → MayHold (settled s) page block → MayHold s page block

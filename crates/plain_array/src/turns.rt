@@ -1,5 +1,6 @@
 // Whether turns are a run.
-ghost use Rattle.std.specs.Prelude.{◌≡◌, ◌↔◌, ◌+◌, ℕ, List, length, IsTrue, IfOk};
+ghost use Rattle.std.specs.Prelude.{◌≡◌, ◌↔◌, ℕ, List, length, IsTrue, IfOk};
+ghost use Rattle.page_device.specs.Counts.{raised};
 ghost use Rattle.array_model.specs.Array.{BlockArray};
 ghost use Rattle.array_model.specs.Turns as run;
 ghost use Rattle.plain_array.specs.Built.{asked_of, letter_of, is_built, rules_of, IsPlace};
@@ -196,13 +197,12 @@ fn fits_turn(
     ensures { (a : BlockArray) → Shows rows.now a → (IsTrue result
         ↔ (run.Asks (rules_of (length rows.now) version letters.now) turn.now.line turn.now.asked
         × run.FitsAsked (rules_of (length rows.now) version letters.now) (record { array = a; unused = unused.now }) turn.now.asked turn.now.answer
-        × (turn.now.at ≡ at + length turn.now.calls))) }
+        × (turn.now.at ≡ raised at (length turn.now.calls)))) }
 {
     let count = turn.calls.len() as u64;
     asks(rows.len(), version, letters, &turn.line, &turn.asked)
         && fits_asked(rows, unused, &turn.asked, &turn.answer)
-        && turn.at >= at
-        && turn.at - at == count
+        && turn.at == at.saturating_add(count)
 }
 
 /// Whether turns are a run over a block array of these rows, which has as many blocks as there are rows,

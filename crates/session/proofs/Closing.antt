@@ -1,124 +1,130 @@
--- The closing flush, and what a session has done when it ends.
-use Rattle.std.proofs.Common.{◌≡◌, ℕ, ◌≤◌, true, false, List, [], ◌∷◌, ◌++◌, refl, ◌∙◌, arith}
-use Rattle.byte_ports.specs.Source.{SourceMeaning, Gives}
-use Rattle.byte_ports.specs.Sink.{SinkMeaning}
+-- The whole course of a session, from its turns and its closing flush.
+use Rattle.std.proofs.Common.{◌≡◌, ℕ, ◌+◌, ◌<◌, ◌≤◌, ◌^◌, Bool, true, false, List, [], ◌∷◌, ◌++◌, refl, sym, ◌∙◌, ap, subst, arith}
+use Rattle.std.proofs.lemmas.List.{append-nil}
+use Rattle.page_device.specs.declared.device.LogEntry.{LogEntry}
+use Rattle.page_device.specs.Disk.{DeviceState, at_rest}
+use Rattle.page_device.specs.Faults.{IsCalm, calm_first, calm_next}
+use Rattle.page_device.specs.Gains.{Gains, gains_none, gains_then}
 use Rattle.page_device.specs.Meaning.{Meaning}
-use Rattle.array_model.specs.Images.{left_mode}
-use Rattle.array_model.specs.Array.{flushed, writes_nothing}
-use Rattle.array_model.specs.Turns.{Work, closing, works_of, survives}
-use Rattle.dedup_writer.specs.Core.{CoreView}
-use Rattle.dedup_writer.specs.Calls.{StoreCall}
-use Rattle.session.specs.declared.status.Status.{Status}
-use Rattle.session.specs.declared.status.Status.TheVariants.{Done, Usage, SourceFault, SinkFault, DeviceFault, NotFormatted, Damaged, LowCount, WrongPrint, PrintOnZero, NoMemory, InputLimit}
-use Rattle.session.specs.Session.{Start, start_rules, array_done, SoFarWith, CutShort}
-use Rattle.session.specs.Endings.{AllAnswered, LastPut, SomeRead, TextCut, Ended, all_done, closing_failed, sink_failed, Closed, ClosesAs, EndsAs, Served}
-use Rattle.session.proofs.More.{did_more}
+use Rattle.page_device.specs.Runs.{all_calls, after_turns}
+use Rattle.array_model.specs.Images.{Mode, left_mode}
+use Rattle.array_model.specs.Array.{BlockArray}
+use Rattle.array_model.specs.Turns.{Work, closing, Rules, array_after_work, works_of, calls_of_works, array_after_works, survives, WorksLeave}
+use Rattle.array_model.proofs.RunLemmas.{calls-append}
+use Rattle.dedup_writer.specs.Core.{shape_in}
+use Rattle.dedup_writer.specs.Stands.{StandsFor, IsInStep}
+use Rattle.session.specs.Answers.{Moment, rules_of, shape_rules}
+use Rattle.session.specs.Chain.{Link, turns_of, FaultsCounted}
+use Rattle.session.specs.Session.{Close, none, closed, failed, FlushesBy, Closes, IsClosed, Kept, IsTold, StandsAfter, start_of, closing_works, works_done}
+use Rattle.session.specs.Endings.{Course}
+use Rattle.session.proofs.Chains.{chain_shape, chain_falls, chain_faulted, chain_done}
+use Rattle.session.proofs.Over.{Over, over_chain, leaves_open, leaves_closed}
+use Rattle.session.proofs.Told.{ToldOver, told_chain}
 
-module _ (s : Start) (bytes : List ℕ) (core later : CoreView) (d e : Meaning) (sink : SinkMeaning) (tells : s.device.tells_pages ≡ true) (all : AllAnswered s bytes core d sink) (same : later.tables.shape ≡ core.tables.shape) (falls : d.faults ≤ e.faults) where
-  abbrev works : List Work
-  works = works_of all.turns
+closing_falls : (close : Close) (last final : Moment) → Closes close last final → last.device.faults ≤ final.device.faults
+closing_falls none last final h = omega (arith, ap (λ (m : Moment). m.device.faults) h)
+closing_falls (closed calls) last final h = h.call.falls
+closing_falls (failed calls) last final h = h.0.call.falls
 
-  -- everything is on the device
-  pub closed_well : StoreCall s.mode core later d e (array_done s works) (flushed (array_done s works)) writes_nothing → Closed s bytes Done later e sink
-  closed_well call = record {
-    turns = all.turns;
-    run = λ few. all.ran.run (omega (arith, few, call.counted.never_falls));
-    sure = all.ran.sure;
-    calm = λ still few. all.ran.calm (omega (arith, still, all.ran.faults, falls)) (omega (arith, few, falls));
-    works = works ++ closing true call.leaves.calls ∷ [];
-    did = did_more s works (closing true call.leaves.calls) core later d e (flushed (array_done s works)) writes_nothing all.ran.did tells all.ran.shape (same ∙ all.ran.shape) call refl refl refl;
-    ended = λ source nothing. all_done call.leaves.calls refl (record { lines = all.lines; nothing_left = nothing }) refl all.put;
-  }
+module _ (mode : Mode) (rules : Rules) (last final : Moment) where
+  -- the device calls of a flush
+  flush_gains : (done : Bool) (calls : List LogEntry) → FlushesBy done calls last final → Gains (calls_of_works mode rules (closing done calls ∷ [])) last.device final.device
+  unfolding all_calls
+  flush_gains done calls f = subst (λ (l : List LogEntry). Gains l last.device final.device) (f.calls_are ∙ sym (append-nil calls)) f.call.gains
 
-  -- the device failed
-  pub closed_by_fault : (status : Status) (put : SinkMeaning) → StoreCall s.mode core later d e (array_done s works) (array_done s works) writes_nothing → LastPut DeviceFault status sink put → Closed s bytes status later e put
-  closed_by_fault status put call last = record {
-    turns = all.turns;
-    run = λ few. all.ran.run (omega (arith, few, call.counted.never_falls));
-    sure = all.ran.sure;
-    calm = λ still few. all.ran.calm (omega (arith, still, all.ran.faults, falls)) (omega (arith, few, falls));
-    works = works ++ closing false call.leaves.calls ∷ [];
-    did = did_more s works (closing false call.leaves.calls) core later d e (array_done s works) writes_nothing all.ran.did tells all.ran.shape (same ∙ all.ran.shape) call refl refl refl;
-    ended = λ source nothing. closing_failed call.leaves.calls (record { lines = all.lines; nothing_left = nothing }) refl (record { after_texts = sink; put = all.put; last_line = last });
-  }
+  closing_gains : (close : Close) → Closes close last final → Gains (calls_of_works mode rules (closing_works close)) last.device final.device
+  unfolding all_calls
+  closing_gains none h = subst (λ (m : Moment). Gains [] last.device m.device) (sym h) (gains_none last.device)
+  closing_gains (closed calls) h = flush_gains true calls h
+  closing_gains (failed calls) h = flush_gains false calls h.0
 
-module _ (s : Start) (bytes : List ℕ) (core : CoreView) (d : Meaning) (sink : SinkMeaning) where
-  -- the text of a turn could not be put
-  cut_is : (c : CutShort s bytes core d sink) → TextCut bytes (c.turns ++ c.last ∷ []) s.sink sink
-  cut_is c = record { before = c.turns; last = c.last; turns_are = refl; rest = c.rest; split = c.split; after_texts = c.whole; put = c.put; part = c.part }
+closing_leaves : (mode : Mode) (rules : Rules) (close : Close) (last final : Moment) (a : BlockArray) → rules_of last.store ≡ rules → StandsFor mode last.store last.device a → Closes close last final
+    → WorksLeave (left_mode mode) rules a last.device.state (closing_works close)
+closing_leaves mode rules none last final a same sf h = leaves_open mode rules last a same sf
+closing_leaves mode rules (closed calls) last final a same sf h = leaves_closed mode rules true calls last final a same sf h
+closing_leaves mode rules (failed calls) last final a same sf h = leaves_closed mode rules false calls last final a same sf h.0
 
-  pub closed_by_cut : CutShort s bytes core d sink → Closed s bytes SinkFault core d sink
-  closed_by_cut c = record {
-    turns = c.turns ++ c.last ∷ [];
-    run = c.ran.run;
-    sure = c.ran.sure;
-    calm = c.ran.calm;
-    works = works_of (c.turns ++ c.last ∷ []);
-    did = c.ran.did;
-    ended = λ source nothing. sink_failed (cut_is c) refl refl;
-  }
+-- the array after some works and then more
+after_works-append : (mode : Mode) (rules : Rules) (a : BlockArray) (works more : List Work) → array_after_works mode rules a (works ++ more) ≡ array_after_works mode rules (array_after_works mode rules a works) more
+unfolding after_turns
+after_works-append mode rules a [] more = refl
+after_works-append mode rules a (work ∷ works) more = after_works-append mode rules (array_after_work rules a work) works more
 
--- what a session that was read to its end does not end as
-pub closes_then : (status : Status) → ClosesAs status → EndsAs status
-closes_then Done h = tt
-closes_then SinkFault h = tt
-closes_then DeviceFault h = tt
-closes_then SourceFault h = absurd h
-closes_then InputLimit h = absurd h
-closes_then Usage h = absurd h
-closes_then NotFormatted h = absurd h
-closes_then (Damaged damage) h = absurd h
-closes_then (LowCount page stored named) h = absurd h
-closes_then (WrongPrint page) h = absurd h
-closes_then (PrintOnZero page) h = absurd h
-closes_then NoMemory h = absurd h
+module _ (mode : Mode) (last final : Moment) (a : BlockArray) (sf : StandsFor mode last.store last.device a) where
+  -- what the store stands for after the close
+  closing_stands : (rules : Rules) (close : Close) → Closes close last final → StandsFor mode final.store final.device (array_after_works (left_mode mode) rules a (closing_works close))
+  unfolding after_turns
+  closing_stands rules none h = subst (λ (m : Moment). StandsFor mode m.store m.device a) (sym h) sf
+  closing_stands rules (closed calls) h = (h.call.over mode a sf).stands
+  closing_stands rules (failed calls) h = (h.0.call.over mode a sf).stands
 
-module _ (s : Start) (status : Status) (core : CoreView) (d : Meaning) (source source' : SourceMeaning) (sink : SinkMeaning) where
-  -- a closed session was served
-  pub served_closed : (bytes : List ℕ) → Gives bytes source source' → (source'.tells ≡ true → source'.left ≡ []) → Closed s bytes status core d sink → Served s status core d source source' sink
-  served_closed bytes gives nothing c = record {
-    bytes = bytes;
-    gives = gives;
-    turns = c.turns;
-    run = c.run;
-    sure = c.sure;
-    calm = c.calm;
-    works = c.works;
-    did = c.did;
-    survives = survives (left_mode s.mode) (start_rules s) s.array s.device.state c.works c.did.leave;
-    ended = c.ended source' nothing;
-  }
+  closing_in_step : (close : Close) → Closes close last final → IsCalm last.device final.device → IsInStep last.store last.device → IsInStep final.store final.device
+  closing_in_step none h calm was = subst (λ (m : Moment). IsInStep m.store m.device) (sym h) was
+  closing_in_step (closed calls) h calm was = (h.call.over mode a sf).in_step (h.call.calm calm) was
+  closing_in_step (failed calls) h calm was = (h.0.call.over mode a sf).in_step (h.0.call.calm calm) was
 
-  -- one that stopped between two lines was served
-  pub served_so_far : (sink' : SinkMeaning) (bytes line : List ℕ) → Gives bytes source source' → (w : SoFarWith s bytes line core d sink)
-      → (SomeRead bytes w.so_far.turns → Ended bytes w.so_far.turns (works_of w.so_far.turns) status source' s.sink sink') → Served s status core d source source' sink'
-  served_so_far sink' bytes line gives w ends =
-      let h = w.so_far in
+module _ (first : Moment) (links : List Link) (close : Close) (d : Meaning) (c : Course first links close d) where
+  pub course_falls : first.device.faults ≤ d.faults
+  course_falls = omega (arith, chain_falls first c.last links c.chain, closing_falls close c.last c.final c.closes, ap (λ (m : Meaning). m.faults) c.device)
+
+  pub course_faulted : FaultsCounted first.device d (turns_of links)
+  course_faulted few =
+      let falls : c.last.device.faults ≤ d.faults = omega (arith, closing_falls close c.last c.final c.closes, ap (λ (m : Meaning). m.faults) c.device) in
+      omega (arith, falls, chain_faulted first c.last links c.chain (omega (arith, few, falls)))
+
+  pub course_kept : (mode : Mode) (a : BlockArray) → StandsFor mode first.store first.device a → Kept (start_of first mode a) (turns_of links) close d
+  course_kept mode a sf =
+      let m = left_mode mode in
+      let rules = rules_of first.store in
+      let works = works_of (turns_of links) in
+      let o : Over mode rules first links c.last a = over_chain mode links first c.last c.chain a sf in
+      let same : rules_of c.last.store ≡ rules = ap shape_rules (chain_shape first c.last links c.chain) in
+      let leave : WorksLeave m rules a first.device.state (works_done (turns_of links) close) = o.leave (closing_works close) (closing_leaves mode rules close c.last c.final (array_after_works m rules a works) same o.stands c.closes) in
       record {
-        bytes = bytes;
-        gives = gives;
-        turns = h.turns;
-        run = h.ran.run;
-        sure = h.ran.sure;
-        calm = h.ran.calm;
-        works = works_of h.turns;
-        did = h.ran.did;
-        survives = survives (left_mode s.mode) (start_rules s) s.array s.device.state (works_of h.turns) h.ran.did.leave;
-        ended = ends (record { begun = w.begun; split = h.split; lines = h.lines; open_line = h.open_line });
+        run = o.run;
+        gains = subst (λ (l : List LogEntry). Gains l first.device d) (sym (calls-append m rules works (closing_works close)))
+            (subst (Gains (calls_of_works m rules works ++ calls_of_works m rules (closing_works close)) first.device) c.device
+            (gains_then (calls_of_works m rules works) (calls_of_works m rules (closing_works close)) first.device c.last.device c.final.device o.gains (closing_gains m rules c.last c.final close c.closes)));
+        leave = leave;
+        survives = survives m rules a first.device.state (works_done (turns_of links) close) leave;
       }
 
-module _ (s : Start) (core : CoreView) (d : Meaning) (source source' : SourceMeaning) (sink : SinkMeaning) where
-  -- one of which a text could not be put was served
-  pub served_by_cut : (bytes : List ℕ) → Gives bytes source source' → CutShort s bytes core d sink → Served s SinkFault core d source source' sink
-  served_by_cut bytes gives c = record {
-    bytes = bytes;
-    gives = gives;
-    turns = c.turns ++ c.last ∷ [];
-    run = c.ran.run;
-    sure = c.ran.sure;
-    calm = c.ran.calm;
-    works = works_of (c.turns ++ c.last ∷ []);
-    did = c.ran.did;
-    survives = survives (left_mode s.mode) (start_rules s) s.array s.device.state (works_of (c.turns ++ c.last ∷ [])) c.ran.did.leave;
-    ended = sink_failed (cut_is s bytes core d sink c) refl refl;
-  }
+  -- what the store stands for then
+  pub course_stands : (now : Moment) → c.final ≡ now → (mode : Mode) (a : BlockArray) → StandsFor mode first.store first.device a → StandsAfter first mode a (works_done (turns_of links) close) now
+  course_stands now is mode a sf =
+      let m = left_mode mode in
+      let rules = rules_of first.store in
+      let works = works_of (turns_of links) in
+      let later = array_after_works m rules a works in
+      let o : Over mode rules first links c.last a = over_chain mode links first c.last c.chain a sf in
+      let chained = chain_falls first c.last links c.chain in
+      let ended = closing_falls close c.last c.final c.closes in
+      subst (StandsAfter first mode a (works_done (turns_of links) close)) is (record {
+        stands = subst (λ (l : BlockArray). StandsFor mode c.final.store c.final.device l) (sym (after_works-append m rules a works (closing_works close))) (closing_stands mode c.last c.final later o.stands rules close c.closes);
+        in_step = λ calm was. closing_in_step mode c.last c.final later o.stands close c.closes (calm_next first.device c.last.device c.final.device chained ended calm)
+            ((told_chain mode links first c.last c.chain a sf was).in_step (chain_done first c.last links c.chain (calm_first first.device c.last.device c.final.device chained ended calm)));
+      })
+
+  -- the numbers of the replies, and that nothing is pending after a closed session without a fault; counted from a device that was
+  -- only looked at before
+  pub course_told : (start : Meaning) (mode : Mode) (a : BlockArray) → start.faults ≤ first.device.faults → StandsFor mode first.store first.device a → IsInStep first.store first.device → IsTold start links close d
+  course_told start mode a falls sf was =
+      let t : ToldOver mode links c.last = told_chain mode links first c.last c.chain a sf was in
+      let o : Over mode (rules_of first.store) first links c.last a = over_chain mode links first c.last c.chain a sf in
+      let chained = chain_falls first c.last links c.chain in
+      let ended = closing_falls close c.last c.final c.closes in
+      record {
+        told = t.told;
+        rest = λ is calm.
+            let over = calm_next start first.device c.final.device falls (omega (arith, chained, ended)) (subst (IsCalm start) (sym c.device) calm) in
+            subst (λ (m : Meaning). m.state ≡ at_rest m.state.fixed) c.device
+            (rests close c.closes is (array_after_works (left_mode mode) (rules_of first.store) a (works_of (turns_of links))) o.stands
+            (t.in_step (chain_done first c.last links c.chain (calm_first first.device c.last.device c.final.device chained ended over)))
+            (calm_next first.device c.last.device c.final.device chained ended over));
+      }
+    where
+      rests : (one : Close) → Closes one c.last c.final → IsClosed one → (later : BlockArray) → StandsFor mode c.last.store c.last.device later → IsInStep c.last.store c.last.device
+          → IsCalm c.last.device c.final.device → c.final.device.state ≡ at_rest c.final.device.state.fixed
+      rests none h is later sf was calm = absurd is
+      rests (closed calls) h is later sf was calm = ((h.call.over mode later sf).in_step (h.call.calm calm) was).rest
+      rests (failed calls) h is later sf was calm = absurd is

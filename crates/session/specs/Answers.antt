@@ -1,19 +1,24 @@
 -- What a command of a line does, and how it is answered.
-use Rattle.std.specs.Prelude.{◌≡◌, ℕ, ◌≤◌, Bool, true, false, List, [], Result, Ok, Err}
+use Rattle.std.specs.Prelude.{◌≡◌, ℕ, ◌≤◌, Bool, true, false, List, [], length, Result, Ok, Err}
 use Rattle.byte_ports.specs.Sink.{SinkMeaning, Takes, TakesFront}
-use Rattle.trace_text.specs.Texts.{text_of}
+use Rattle.page_device.specs.Block.{Block}
+use Rattle.page_device.specs.declared.device.LogEntry.{LogEntry}
+use Rattle.page_device.specs.Faults.{IsCalm}
+use Rattle.page_device.specs.Gains.{Gains}
 use Rattle.page_device.specs.Meaning.{Meaning, FaultRose}
+use Rattle.page_layout.specs.Shape.{ShapeView, total}
+use Rattle.trace_text.specs.Texts.{text_of}
 use Rattle.trace_text.specs.declared.command.Command.{Command}
 use Rattle.trace_text.specs.declared.command.Command.TheVariants.{Write, Fill, Read, Discard, Flush, Stat, Policy, Tune, Tick}
 use Rattle.trace_text.specs.declared.reply.Reply.{Reply}
 use Rattle.trace_text.specs.declared.reply.Reply.TheVariants as reply
 use Rattle.array_model.specs.Images.{Mode}
-use Rattle.array_model.specs.Array.{BlockArray}
-use Rattle.array_model.specs.Turns.{Asked, known, Rules, Asks, FitsAsked, array_after_asked, asked_writes}
+use Rattle.array_model.specs.Array.{BlockArray, last}
+use Rattle.array_model.specs.Turns.{Asked, bad, known, Rules, Asks, FitsAskedWith, array_after_asked, asked_writes}
 use Rattle.dedup_writer.specs.declared.store.Refusal.{Refusal}
 use Rattle.dedup_writer.specs.declared.store.Refusal.TheVariants as refusal
-use Rattle.dedup_writer.specs.Core.{CoreView, stat_of, waste}
-use Rattle.dedup_writer.specs.Calls.{StoreCall, AllCounted}
+use Rattle.dedup_writer.specs.Core.{CoreView, shape_in, stat_in, calls_in, CountsCalls}
+use Rattle.dedup_writer.specs.Calls.{StoreCall, AllDone, IsDamaged, IsFullWith, LacksMemory}
 use Rattle.dedup_writer.specs.Stands.{StandsFor}
 
 -- the commands that are built
@@ -29,9 +34,28 @@ is_built (Tune n) = true
 is_built Tick = true
 is_built command = false
 
--- the rules of a session over a store
+-- the rules of a session over an image of this shape, and over a store
+abbrev pub shape_rules : ShapeView → Rules
+shape_rules shape = record { blocks = shape.blocks; version = shape.version; built = is_built }
+
 abbrev pub rules_of : CoreView → Rules
-rules_of core = record { blocks = core.tables.shape.blocks; version = core.tables.shape.version; built = is_built }
+rules_of core = shape_rules (shape_in core)
+
+-- no policy is built: the labels of the unused ones
+abbrev pub no_policies : List ℕ
+no_policies = []
+
+-- what a session is at a moment: its device, and its store
+pub record Moment : Type 0 where
+  pub device : Meaning
+  pub store : CoreView
+
+abbrev pub at : CoreView → Meaning → Moment
+at store device = record { device = device; store = store }
+
+-- the device has the pages of the store's image
+abbrev pub Fits : CoreView → Meaning → Type 0
+Fits store device = total (shape_in store) ≤ device.pages
 
 -- what a refusal is answered
 abbrev pub refusal_reply : Refusal → Reply
@@ -41,52 +65,59 @@ refusal_reply (refusal.Damaged damage) = reply.Damaged damage
 refusal_reply (refusal.Full live waste) = reply.Full live waste
 refusal_reply refusal.NoMemory = reply.NoMemory
 
--- Why a command was not done: the device counted a fault in this call, or every data page is counted. The store reads no
--- table page and takes no memory, so that the other two refusals do not come. And what `stat` tells: the numbers of the
--- store before the command.
-abbrev pub ReplyCause : Reply → CoreView → Meaning → Meaning → Type 0
-ReplyCause reply.Fault core d e = FaultRose d e
-ReplyCause (reply.Full live more) core d e = (live ≡ core.tables.shape.pages) × (more ≡ waste core.tables) × AllCounted core
-ReplyCause (reply.Stat stat) core d e = stat ≡ stat_of core
-ReplyCause (reply.Damaged damage) core d e = ⊥
-ReplyCause reply.NoMemory core d e = ⊥
-ReplyCause r core d e = Unit {0}
+-- a content that a read may give: the last one of the block, in each array for which the store stands
+abbrev pub ReadsLast : Moment → ℕ → Block → Type 0
+ReadsLast m block page = (mode : Mode) (a : BlockArray) → StandsFor mode m.store m.device a → page ≡ last a block
 
--- no policy is built: the labels of the unused ones
-abbrev pub no_policies : List ℕ
-no_policies = []
+-- nothing happened
+pub record IsQuiet (from to : Moment) : Type 0 where
+  pub store : to.store ≡ from.store
+  pub device : to.device ≡ from.device
 
--- what was asked for was done over an array: the reply fits, and the store did what the array says
-pub record AskedDone (mode : Mode) (a : BlockArray) (asked : Asked) (r : Reply) (old new : CoreView) (d e : Meaning) : Type 0 where
-  pub fits : FitsAsked (rules_of old) (record { array = a; unused = no_policies }) asked r
-  pub call : StoreCall mode old new d e a (array_after_asked (rules_of old) a asked r) (asked_writes a asked)
+-- Why a command was answered so: `fault` only where the device counted a fault; `full` and `stat` by the numbers of the store,
+-- and nothing else was done.
+abbrev pub ReplyCause : Reply → Moment → Moment → Type 0
+ReplyCause reply.Fault from to = FaultRose from.device to.device
+ReplyCause (reply.Full live more) from to = IsFullWith live more from.store × IsQuiet from to
+ReplyCause (reply.Stat stat) from to = (stat ≡ stat_in from.store) × IsQuiet from to
+ReplyCause (reply.Damaged damage) from to = IsDamaged damage from.store from.device to.device
+ReplyCause reply.NoMemory from to = LacksMemory from.store
+ReplyCause reply.Range from to = IsQuiet from to
+ReplyCause reply.NoPolicy from to = IsQuiet from to
+ReplyCause reply.Bad from to = IsQuiet from to
+ReplyCause r from to = Unit {0}
 
--- a command was run: one that is built over each array for which the store stands, and any other one not at all
-abbrev pub KnownDone : Command → Reply → CoreView → CoreView → Meaning → Meaning → Type 0
-KnownDone command r old new d e = (mode : Mode) (a : BlockArray) → StandsFor mode old d a → AskedDone mode a (known command) r old new d e
+-- What was asked for was done, by these device calls. Over whatever device: the reply fits but for the content of a read, and has
+-- its cause; these device calls were made, and no others, and each ended `Done` where the device counted no fault. And over each array for which the store stands: a read gives the last
+-- content, and the store did what the array says.
+pub record Does (asked : Asked) (r : Reply) (calls : List LogEntry) (from to : Moment) : Type 0 where
+  pub fits : FitsAskedWith (ReadsLast from) (rules_of from.store) no_policies asked r
+  pub cause : ReplyCause r from to
+  pub gains : Gains calls from.device to.device
+  pub counted : CountsCalls (length calls) (calls_in from.store) (calls_in to.store)
+  pub shape : shape_in to.store ≡ shape_in from.store
+  pub pages : to.device.pages ≡ from.device.pages
+  pub falls : from.device.faults ≤ to.device.faults
+  pub calm : IsCalm from.device to.device → AllDone calls
+  pub over : (mode : Mode) (a : BlockArray) → StandsFor mode from.store from.device a
+      → StoreCall mode calls from.store to.store from.device to.device a (array_after_asked (rules_of from.store) a asked r) (asked_writes a asked)
 
-abbrev pub NothingDone : Reply → CoreView → CoreView → Meaning → Meaning → Type 0
-NothingDone r old new d e = (r ≡ reply.Bad) × (new ≡ old) × (e ≡ d)
+-- a command was run
+pub record Commanded (command : Command) (r : Reply) (from to : Moment) : Type 0 where
+  pub calls : List LogEntry
+  pub does : Does (known command) r calls from to
 
-abbrev pub RunsCommand : Command → Reply → CoreView → CoreView → Meaning → Meaning → Type 0
-RunsCommand (Write block number) r old new d e = KnownDone (Write block number) r old new d e
-RunsCommand (Fill block page) r old new d e = KnownDone (Fill block page) r old new d e
-RunsCommand (Discard block) r old new d e = KnownDone (Discard block) r old new d e
-RunsCommand (Read block) r old new d e = KnownDone (Read block) r old new d e
-RunsCommand Stat r old new d e = KnownDone Stat r old new d e
-RunsCommand (Policy label) r old new d e = KnownDone (Policy label) r old new d e
-RunsCommand (Tune n) r old new d e = KnownDone (Tune n) r old new d e
-RunsCommand Tick r old new d e = KnownDone Tick r old new d e
-RunsCommand Flush r old new d e = KnownDone Flush r old new d e
-RunsCommand command r old new d e = NothingDone r old new d e
+-- one that is built was run, and another one is bad, and not run at all
+pub record RunsCommand (command : Command) (r : Reply) (from to : Moment) : Type 0 where
+  pub run : is_built command ≡ true → Commanded command r from to
+  pub other : is_built command ≡ false → (r ≡ reply.Bad) × IsQuiet from to
 
--- the line asks for something, and over each array for which the store stands that was done
-pub record CommandDone (line : List ℕ) (r : Reply) (old new : CoreView) (d e : Meaning) : Type 0 where
+-- the line asks for something, and that was done
+pub record CommandDone (line : List ℕ) (r : Reply) (from to : Moment) : Type 0 where
   pub asked : Asked
-  pub asks : Asks (rules_of old) line asked
-  pub cause : ReplyCause r old d e
-  pub never_falls : d.faults ≤ e.faults
-  pub done : (mode : Mode) (a : BlockArray) → StandsFor mode old d a → AskedDone mode a asked r old new d e
+  pub calls : List LogEntry
+  pub asks : Asks (rules_of from.store) line asked
+  pub does : Does asked r calls from to
 
 -- the text was put whole, or a front of it
 abbrev pub PutText : {E : Type 0} → Result Unit E → List ℕ → SinkMeaning → SinkMeaning → Type 0
@@ -94,7 +125,7 @@ PutText (Ok _) text old new = Takes text old new
 PutText (Err _) text old new = TakesFront text old new
 
 -- one turn: the command of the line was done, and its reply was put, whole or in part
-pub record TurnDone {E : Type 0} (line : List ℕ) (result : Result Unit E) (old new : CoreView) (d e : Meaning) (sink later : SinkMeaning) : Type 0 where
+pub record TurnDone {E : Type 0} (line : List ℕ) (result : Result Unit E) (from to : Moment) (sink later : SinkMeaning) : Type 0 where
   pub answer : Reply
-  pub command : CommandDone line answer old new d e
-  pub put : PutText result (text_of new.calls answer) sink later
+  pub command : CommandDone line answer from to
+  pub put : PutText result (text_of (calls_in to.store) answer) sink later

@@ -1,7 +1,10 @@
-pub mod Answers
-pub mod Endings
-pub mod Opening
-pub mod Reading
-pub mod Run
-pub mod Session
 pub mod Statuses
+pub mod Answers
+pub mod Chain
+pub mod Session
+pub mod Endings
+pub mod Reading
+pub mod Opening
+pub mod Run
+pub mod Flat
+pub mod Stopped

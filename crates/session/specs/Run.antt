@@ -3,44 +3,38 @@ use Rattle.std.specs.Prelude.{◌≡◌, ◌≢◌, ◌⊎◌, ℕ, ◌≤◌, t
 use Rattle.byte_ports.specs.Source.{SourceMeaning}
 use Rattle.byte_ports.specs.Sink.{SinkMeaning}
 use Rattle.page_device.specs.Disk.{at_rest}
-use Rattle.page_device.specs.Meaning.{Meaning, IsUntouched, FaultRose}
-use Rattle.page_device.specs.Moments.{EachImage}
+use Rattle.page_device.specs.Meaning.{Meaning, IsUntouched}
 use Rattle.page_layout.specs.Shape.{ShapeView}
 use Rattle.cli_words.specs.Grammar.{Means}
 use Rattle.cli_words.specs.declared.jobs.Job.{Job}
 use Rattle.cli_words.specs.declared.jobs.Job.TheVariants as job
-use Rattle.session.specs.declared.program.Action.{Action}
-use Rattle.session.specs.declared.program.Action.TheVariants.{Trace, Format, Check, Other}
 use Rattle.array_model.specs.Images.{Mode, IsFit, IsGood}
 use Rattle.array_model.specs.Array.{array_start}
-use Rattle.dedup_writer.specs.Core.{CoreView}
+use Rattle.page_layout.specs.Tables.{shape_of}
+use Rattle.dedup_writer.specs.Core.{shape_in, calls_in}
+use Rattle.session.specs.Answers.{Moment, shape_rules}
+use Rattle.session.specs.Chain.{turns_of, ArePlain, EachAnswer, IsSure, FaultsCounted}
+use Rattle.session.specs.Session.{Start, Kept, IsTold}
+use Rattle.page_device.specs.Meaning.{FaultRose}
 use Rattle.session.specs.declared.status.Status.{Status}
-use Rattle.session.specs.declared.status.Status.TheVariants.{Done, Usage, DeviceFault, Damaged, LowCount, WrongPrint, PrintOnZero, NoMemory}
+use Rattle.session.specs.declared.status.Status.TheVariants.{Done, Usage, DeviceFault, NoMemory}
 use Rattle.image_reader.specs.Looked.{Looked, Holds, TellsShape}
 use Rattle.mount_reader.specs.declared.error.MountError.{MountError}
 use Rattle.mount_reader.specs.Mount.{MountCause, IsRefusal}
 use Rattle.image_check.specs.declared.verdict.Verdict.{Verdict}
-use Rattle.image_check.specs.declared.verdict.Verdict.TheVariants as verdict
 use Rattle.image_check.specs.declared.verdict.CheckError.{CheckError}
 use Rattle.image_check.specs.Verdicts.{CheckCause, IsUnsound, IsVerdict}
-use Rattle.trace_text.specs.Texts.{formatted_line, sound_line}
-use Rattle.session.specs.Statuses.{last_text}
-use Rattle.mount_reader.specs.Format.{IsNew, Formats}
+use Rattle.trace_text.specs.Texts.{formatted_line}
+use Rattle.session.specs.Statuses.{verdict_line}
+use Rattle.mount_reader.specs.Format.{Formats, IsFormatted}
 use Rattle.session.specs.Opening.{mount_status, unread_status, verdict_status}
-use Rattle.session.specs.Endings.{LastPut, LinePut, EndsAs, Served}
+use Rattle.session.specs.Endings.{LastPut, LinePut, EndsAs, Answered}
 
 -- the words ask for a job that is built: a session with the policy 0, a new image, or a check
 pub data AsksFor (words : List (List ℕ)) : Type 0 where
   a_session : (cache : ℕ) → Means words (job.Trace cache 0) → AsksFor words
   an_image : (blocks pages : ℕ) → Means words (job.Format blocks pages) → AsksFor words
   a_check : Means words job.Check → AsksFor words
-
--- what is done for a job
-abbrev pub IsAction : Job → Action → Type 0
-IsAction j Trace = (cache : ℕ) × (j ≡ job.Trace cache 0)
-IsAction j (Format blocks pages) = j ≡ job.Format blocks pages
-IsAction j Check = j ≡ job.Check
-IsAction j Other = ((cache : ℕ) → j ≢ job.Trace cache 0) × ((blocks pages : ℕ) → j ≢ job.Format blocks pages) × (j ≢ job.Check)
 
 -- the image was not opened: the device was only looked at, and the last line of the cause was put
 pub record Unopened (status : Status) (d d' : Meaning) (source source' : SourceMeaning) (sink sink' : SinkMeaning) : Type 0 where
@@ -51,21 +45,36 @@ pub record Unopened (status : Status) (d d' : Meaning) (source source' : SourceM
   pub nothing_read : source' ≡ source
   pub last_line : LastPut (mount_status why) status sink sink'
 
--- the image was opened, and a session served over it
+-- an honest device that tells its pages, with nothing pending
+pub record IsReady (d : Meaning) : Type 0 where
+  pub honest : d.honest ≡ true
+  pub tells_pages : d.tells_pages ≡ true
+  pub rest : d.state ≡ at_rest d.state.fixed
+
+-- where a session over the image of a device begins
+abbrev pub session_start : Mode → Meaning → Start
+session_start mode d = record { mode = mode; array = array_start d.state.fixed; shape = shape_of d.state.fixed; at = 0; device = d }
+
+-- The image was opened, and a session served over it. Over whatever device: the store that was opened has the shape that page 0
+-- told, and had made no device call; these bytes were taken, and these turns answer their lines; each reply fits but for the contents
+-- of blocks, and the device counted each `fault`. And over an honest device that tells its pages and has nothing pending, from the
+-- array of its image, which is good in this mode: what `Kept` says, and the numbers.
 pub record Opened (status : Status) (d d' : Meaning) (source source' : SourceMeaning) (sink sink' : SinkMeaning) : Type 0 where
-  -- the store and the device when the session began, and the store at its end
-  pub store : CoreView
-  pub begun : Meaning
-  pub core : CoreView
-  pub looked : Looked d begun
-  pub faults : d.faults ≤ begun.faults
-  pub calls : store.calls ≡ 0
+  pub shape : ShapeView
+  pub told : Holds (TellsShape shape) d
   pub fit : Holds IsFit d
-  pub shape : Holds (TellsShape store.tables.shape) d
   pub status_is : EndsAs status
-  -- over an honest device that tells its pages and has nothing pending, from the array of its image, which is good in this mode
-  pub served : d.honest ≡ true → d.tells_pages ≡ true → d.state ≡ at_rest d.state.fixed → (mode : Mode) → IsGood mode d.state.fixed
-      → Served (record { mode = mode; array = array_start d.state.fixed; store = store; device = begun; sink = sink }) status core d' source source' sink'
+  pub first : Moment
+  pub looked : Looked d first.device
+  pub falls : d.faults ≤ first.device.faults
+  pub first_shape : shape_in first.store ≡ shape
+  pub first_calls : calls_in first.store ≡ 0
+  pub answered : Answered (record { moment = first; sink = sink }) status d' source source' sink'
+  pub plain : ArePlain (shape_rules shape) (turns_of answered.links)
+  pub sure : EachAnswer (IsSure shape.pages) (turns_of answered.links)
+  pub faulted : FaultsCounted d d' (turns_of answered.links)
+  pub kept : IsReady d → (mode : Mode) → IsGood mode d.state.fixed → Kept (session_start mode d) (turns_of answered.links) answered.close d'
+  pub counted : IsReady d → IsTold d answered.links answered.close d'
 
 -- what a session over the image of a device does
 pub data TraceOutcome (status : Status) (d d' : Meaning) (source source' : SourceMeaning) (sink sink' : SinkMeaning) : Type 0 where
@@ -76,23 +85,11 @@ pub data TraceOutcome (status : Status) (d d' : Meaning) (source source' : Sourc
 abbrev pub new_shape : ℕ → ℕ → ShapeView
 new_shape blocks pages = record { blocks = blocks; pages = pages; version = 1 }
 
--- how formatting ends: with the new image and its line, or with a fault and its last line
-pub data FormatEnd (shape : ShapeView) (status : Status) (d d' : Meaning) (sink sink' : SinkMeaning) : Type 0 where
-  formatted : LinePut (formatted_line shape.blocks shape.pages) Done status sink sink' → (d.honest ≡ true → d.tells_pages ≡ true → EachImage (IsNew shape) d'.state) → FormatEnd shape status d d' sink sink'
-  failed : FaultRose d d' → LastPut DeviceFault status sink sink' → FormatEnd shape status d d' sink sink'
-
--- what formatting a device does
-pub record FormatOutcome (shape : ShapeView) (status : Status) (d d' : Meaning) (sink sink' : SinkMeaning) : Type 0 where
-  pub leaves : IsUntouched d d' ⊎ Formats shape d d'
-  pub ended : FormatEnd shape status d d' sink sink'
-
--- the line of a verdict
-abbrev pub verdict_line : Verdict → List ℕ
-verdict_line (verdict.Sound waste) = sound_line waste
-verdict_line (verdict.Damaged damage) = last_text (Damaged damage)
-verdict_line (verdict.LowCount page stored named) = last_text (LowCount page stored named)
-verdict_line (verdict.WrongPrint page) = last_text (WrongPrint page)
-verdict_line (verdict.PrintOnZero page) = last_text (PrintOnZero page)
+-- what formatting a device does: there is the new image, and its line was put; or the device counted a fault, and the last line of
+-- it was put
+pub data FormatOutcome (shape : ShapeView) (status : Status) (d d' : Meaning) (sink sink' : SinkMeaning) : Type 0 where
+  formatted : IsFormatted shape d d' → LinePut (formatted_line shape.blocks shape.pages) Done status sink sink' → FormatOutcome shape status d d' sink sink'
+  failed : FaultRose d d' → IsUntouched d d' ⊎ Formats shape d d' → LastPut DeviceFault status sink sink' → FormatOutcome shape status d d' sink sink'
 
 -- how a check ends: with a verdict, which is another one than sound only of an image that is not sound, and its line; or with the
 -- last line of why the image can't be checked
@@ -105,10 +102,34 @@ pub record CheckOutcome (status : Status) (d d' : Meaning) (sink sink' : SinkMea
   pub looked : Looked d d'
   pub ended : CheckEnd status d d' sink sink'
 
--- what the program does
-pub data Outcome (words : List (List ℕ)) (status : Status) (d d' : Meaning) (source source' : SourceMeaning) (sink sink' : SinkMeaning) : Type 0 where
-  other_words : ¬ AsksFor words → status ≡ Usage → d' ≡ d → source' ≡ source → sink' ≡ sink → Outcome words status d d' source source' sink sink'
-  no_memory : d' ≡ d → source' ≡ source → LastPut NoMemory status sink sink' → Outcome words status d d' source source' sink sink'
-  traced : (cache : ℕ) → Means words (job.Trace cache 0) → TraceOutcome status d d' source source' sink sink' → Outcome words status d d' source source' sink sink'
-  looked_over : Means words job.Check → CheckOutcome status d d' sink sink' → source' ≡ source → Outcome words status d d' source source' sink sink'
-  made : (blocks pages : ℕ) → Means words (job.Format blocks pages) → FormatOutcome (new_shape blocks pages) status d d' sink sink' → source' ≡ source → Outcome words status d d' source source' sink sink'
+-- there was no memory before anything was done
+pub record NoneDone (status : Status) (d d' : Meaning) (source source' : SourceMeaning) (sink sink' : SinkMeaning) : Type 0 where
+  pub same_device : d' ≡ d
+  pub same_source : source' ≡ source
+  pub last_line : LastPut NoMemory status sink sink'
+
+-- the words were refused, and nothing was done
+pub record Refuses (status : Status) (d d' : Meaning) (source source' : SourceMeaning) (sink sink' : SinkMeaning) : Type 0 where
+  pub is : status ≡ Usage
+  pub same_device : d' ≡ d
+  pub same_source : source' ≡ source
+  pub same_sink : sink' ≡ sink
+
+-- what is done for a job: a session with the policy 0, a new image, or a check; no other job is built
+abbrev pub JobOutcome : Job → Status → Meaning → Meaning → SourceMeaning → SourceMeaning → SinkMeaning → SinkMeaning → Type 0
+JobOutcome (job.Trace cache policy) status d d' source source' sink sink' = (policy ≡ 0 → TraceOutcome status d d' source source' sink sink') × (policy ≢ 0 → Refuses status d d' source source' sink sink')
+JobOutcome (job.Format blocks pages) status d d' source source' sink sink' = FormatOutcome (new_shape blocks pages) status d d' sink sink' × (source' ≡ source)
+JobOutcome job.Check status d d' source source' sink sink' = CheckOutcome status d d' sink sink' × (source' ≡ source)
+JobOutcome other status d d' source source' sink sink' = Refuses status d d' source source' sink sink'
+
+-- a job that is not built
+abbrev pub IsOther : Job → Type 0
+IsOther (job.Trace cache policy) = policy ≢ 0
+IsOther (job.Format blocks pages) = ⊥
+IsOther job.Check = ⊥
+IsOther other = Unit {0}
+
+-- what the program does: what its words mean, or nothing where they mean no job
+pub record Outcome (words : List (List ℕ)) (status : Status) (d d' : Meaning) (source source' : SourceMeaning) (sink sink' : SinkMeaning) : Type 0 where
+  pub done : (j : Job) → Means words j → NoneDone status d d' source source' sink sink' ⊎ JobOutcome j status d d' source source' sink sink'
+  pub refused : ((j : Job) → ¬ Means words j) → NoneDone status d d' source source' sink sink' ⊎ Refuses status d d' source source' sink sink'

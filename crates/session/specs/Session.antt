@@ -1,115 +1,138 @@
--- What a session has done: over each array for which the store stood when it began.
-use Rattle.std.specs.Prelude.{◌≡◌, ◌≢◌, ℕ, ◌+◌, ◌<◌, ◌≤◌, ◌^◌, true, List, [], ◌∷◌, ◌++◌, length, take, Result, Ok, Err}
+-- What a session has done: the turns that it made, and the closing flush.
+use Rattle.std.specs.Prelude.{◌≡◌, ℕ, ◌<◌, ◌^◌, Bool, true, false, List, [], ◌∷◌, ◌++◌, take, if◌then◌else◌, Result, Ok, Err}
 use Rattle.byte_ports.specs.Sink.{SinkMeaning, Takes, TakesFront}
 use Rattle.page_device.specs.declared.device.LogEntry.{LogEntry}
-use Rattle.page_device.specs.declared.error.Damage.{Damage}
-use Rattle.page_device.specs.Disk.{state_after}
-use Rattle.page_device.specs.Meaning.{Meaning, SameKind, IsCounted}
-use Rattle.trace_text.specs.declared.reply.Reply.{Reply}
-use Rattle.trace_text.specs.declared.reply.Reply.TheVariants as reply
+use Rattle.page_device.specs.Disk.{at_rest}
+use Rattle.page_device.specs.Faults.{IsCalm}
+use Rattle.page_device.specs.Gains.{Gains}
+use Rattle.page_device.specs.Meaning.{Meaning}
+use Rattle.page_layout.specs.Shape.{ShapeView}
 use Rattle.trace_text.specs.Texts.{text_of}
 use Rattle.array_model.specs.Images.{Mode, left_mode}
-use Rattle.array_model.specs.Array.{BlockArray}
-use Rattle.array_model.specs.Turns.{Turn, Work, Rules, RunState, IsRun, joined, IsLine, AreLines, lines_of, texts, works_of, at_after, calls_of_works, array_after_works, WorksLeave}
-use Rattle.dedup_writer.specs.Core.{CoreView, CountsCalls}
-use Rattle.dedup_writer.specs.Stands.{StandsFor}
-use Rattle.session.specs.Answers.{no_policies, rules_of}
+use Rattle.array_model.specs.Array.{BlockArray, flushed, writes_nothing}
+use Rattle.array_model.specs.Turns.{Turn, Work, closing, Rules, RunState, IsRun, joined, IsLine, AreLines, lines_of, texts, works_of, calls_of_works, array_after_works, WorksLeave, SurvivesCrash}
+use Rattle.dedup_writer.specs.Core.{CoreView, shape_in, calls_in}
+use Rattle.dedup_writer.specs.Calls.{Called, EndUndone}
+use Rattle.dedup_writer.specs.Stands.{StandsFor, IsInStep}
+use Rattle.session.specs.Answers.{Moment, no_policies, shape_rules, rules_of}
+use Rattle.session.specs.Chain.{Link, IsChain, turns_of, AreTold}
 
 -- the most that is kept of a line: a longer one is bad
 abbrev pub kept : List ℕ → List ℕ
 kept line = take 8206 line
 
--- where a session began: the mode, the array, the store, the device and the sink
+-- where a session begins, whatever the device is
+pub record Begin : Type 0 where
+  pub moment : Moment
+  pub sink : SinkMeaning
+
+-- whether there was a closing flush, and whether it was done; with its device calls
+pub data Close : Type 0 where
+  none : Close
+  closed : List LogEntry → Close
+  failed : List LogEntry → Close
+
+-- a flush, by these device calls
+pub record FlushesBy (done : Bool) (calls : List LogEntry) (from to : Moment) : Type 0 where
+  pub call : Called from.store to.store from.device to.device (λ a. if done then flushed a else a) (λ _. writes_nothing)
+  pub calls_are : call.calls ≡ calls
+
+-- so it was; and the last call of one that failed did not end `Done`
+abbrev pub Closes : Close → Moment → Moment → Type 0
+Closes none from to = to ≡ from
+Closes (closed calls) from to = FlushesBy true calls from to
+Closes (failed calls) from to = FlushesBy false calls from to × EndUndone calls
+
+-- over an array: where the session began, with the mode of the image, the shape, and the number of device calls so far
 pub record Start : Type 0 where
   pub mode : Mode
   pub array : BlockArray
-  pub store : CoreView
+  pub shape : ShapeView
+  pub at : ℕ
   pub device : Meaning
-  pub sink : SinkMeaning
+
+-- over this array, for which the store stands in this mode
+abbrev pub start_of : Moment → Mode → BlockArray → Start
+start_of m mode array = record { mode = mode; array = array; shape = shape_in m.store; at = calls_in m.store; device = m.device }
 
 abbrev pub start_state : Start → RunState
 start_state s = record { array = s.array; unused = no_policies }
 
 abbrev pub start_rules : Start → Rules
-start_rules s = rules_of s.store
+start_rules s = shape_rules s.shape
 
-abbrev pub calls_done : Start → List Work → List LogEntry
-calls_done s works = calls_of_works (left_mode s.mode) (start_rules s) works
+-- what was done: the turns, and the closing flush, if there was one
+abbrev pub closing_works : Close → List Work
+closing_works none = []
+closing_works (closed calls) = closing true calls ∷ []
+closing_works (failed calls) = closing false calls ∷ []
 
-abbrev pub array_done : Start → List Work → BlockArray
-array_done s works = array_after_works (left_mode s.mode) (start_rules s) s.array works
+abbrev pub works_done : List Turn → Close → List Work
+works_done turns close = works_of turns ++ closing_works close
 
--- the device calls of these works, and no others, were made, and a crash within each leaves what it may
-pub record Did (s : Start) (works : List Work) (d : Meaning) : Type 0 where
-  pub leave : WorksLeave (left_mode s.mode) (start_rules s) s.array s.device.state works
-  pub state : d.state ≡ state_after s.device.state (calls_done s works)
-  pub grows : s.device.tells_log ≡ true → length s.device.log ≤ length d.log
-  pub log : s.device.tells_log ≡ true → IsCounted d → d.log ≡ s.device.log ++ calls_done s works
-  pub kind : SameKind s.device d
+-- What was done over an array for which the store stood. Each reply is the block array's, and each number counts the device calls
+-- so far. The device calls of the turns and of the closing flush, and no others, were made. After a crash at any of them each block
+-- reads what is allowed after the works that had ended then, or what the work that was being done writes to it.
+pub record Kept (s : Start) (turns : List Turn) (close : Close) (d : Meaning) : Type 0 where
+  pub run : s.at < 2 ^ 64 → IsRun (start_rules s) (start_state s) s.at turns
+  pub gains : Gains (calls_of_works (left_mode s.mode) (start_rules s) (works_done turns close)) s.device d
+  pub leave : WorksLeave (left_mode s.mode) (start_rules s) s.array s.device.state (works_done turns close)
+  pub survives : SurvivesCrash (left_mode s.mode) (start_rules s) s.array s.device.state (works_done turns close)
 
--- each reply
-unfoldable pub EachAnswer : (Reply → Type 0) → List Turn → Type 0
-EachAnswer P [] = Unit {0}
-EachAnswer P (turn ∷ turns) = P turn.answer × EachAnswer P turns
+-- it was closed, and that was done
+abbrev pub IsClosed : Close → Type 0
+IsClosed none = ⊥
+IsClosed (closed calls) = Unit {0}
+IsClosed (failed calls) = ⊥
 
--- it says of no table that it is damaged, and of no memory that it is missing; and a full store has so many live pages as there are data pages
-pub record IsSure (pages : ℕ) (r : Reply) : Type 0 where
-  pub whole : (damage : Damage) → r ≢ reply.Damaged damage
-  pub has_memory : r ≢ reply.NoMemory
-  pub full : (live waste : ℕ) → r ≡ reply.Full live waste → live ≡ pages
+-- the numbers of the replies are those of the pages, as long as each device call ended `Done`; and where no fault was counted, the
+-- device has nothing pending once the session is closed
+pub record IsTold (start : Meaning) (links : List Link) (close : Close) (d : Meaning) : Type 0 where
+  pub told : AreTold links
+  pub rest : IsClosed close → IsCalm start d → d.state ≡ at_rest d.state.fixed
 
--- it does not say that the device failed
-abbrev pub NoFault : Reply → Type 0
-NoFault r = r ≢ reply.Fault
-
--- where no fault was counted, no reply is `fault`
-abbrev pub Calm : Meaning → Meaning → List Turn → Type 0
-Calm d e turns = e.faults ≡ d.faults → e.faults + 1 < 2 ^ 64 → EachAnswer NoFault turns
-
--- these turns were made: the store stands for the array after them, and they are a run as long as calls are counted
-pub record Ran (s : Start) (turns : List Turn) (core : CoreView) (d : Meaning) : Type 0 where
-  pub did : Did s (works_of turns) d
-  pub stands : StandsFor s.mode core d (array_done s (works_of turns))
-  pub shape : core.tables.shape ≡ s.store.tables.shape
-  pub counted : CountsCalls (length (calls_done s (works_of turns))) s.store.calls core.calls
-  pub run : core.calls + 1 < 2 ^ 64 → IsRun (start_rules s) (start_state s) s.store.calls turns
-  pub at : core.calls + 1 < 2 ^ 64 → at_after s.store.calls turns ≡ core.calls
-  pub faults : s.device.faults ≤ d.faults
-  pub sure : EachAnswer (IsSure s.store.tables.shape.pages) turns
-  pub calm : Calm s.device d turns
+-- What a further session begins with: after these works the store stands for the array after them; and where no fault was counted, its
+-- tables are in step if they were.
+pub record StandsAfter (first : Moment) (mode : Mode) (a : BlockArray) (works : List Work) (now : Moment) : Type 0 where
+  pub stands : StandsFor mode now.store now.device (array_after_works (left_mode mode) (rules_of first.store) a works)
+  pub in_step : IsCalm first.device now.device → IsInStep first.store first.device → IsInStep now.store now.device
 
 -- these bytes of the input are lines that were answered, and one that is begun
-pub record SoFar (s : Start) (bytes begun : List ℕ) (core : CoreView) (d : Meaning) (sink : SinkMeaning) : Type 0 where
-  pub turns : List Turn
-  pub ran : Ran s turns core d
-  pub split : bytes ≡ joined (lines_of turns) begun
-  pub lines : AreLines (lines_of turns)
+pub record SoFar (b : Begin) (bytes begun : List ℕ) (now : Moment) (sink : SinkMeaning) : Type 0 where
+  pub links : List Link
+  pub chain : IsChain b.moment links now
+  pub split : bytes ≡ joined (lines_of (turns_of links)) begun
+  pub lines : AreLines (lines_of (turns_of links))
   pub open_line : IsLine begun
-  pub put : Takes (texts turns) s.sink sink
+  pub put : Takes (texts (turns_of links)) b.sink sink
 
--- the text of the last turn could not be put whole; some of the bytes were not looked at
-pub record CutShort (s : Start) (bytes : List ℕ) (core : CoreView) (d : Meaning) (sink : SinkMeaning) : Type 0 where
-  pub turns : List Turn
-  pub last : Turn
-  pub ran : Ran s (turns ++ last ∷ []) core d
-  pub rest : List ℕ
-  pub split : bytes ≡ joined (lines_of turns) (last.line ++ rest)
+-- turns, of which the text of the last could not be put whole
+pub record LastCut (b : Begin) (links : List Link) (last : Link) (now : Moment) (sink : SinkMeaning) : Type 0 where
+  pub chain : IsChain b.moment (links ++ last ∷ []) now
   pub whole : SinkMeaning
-  pub put : Takes (texts turns) s.sink whole
-  pub part : TakesFront (text_of last.at last.answer) whole sink
+  pub put : Takes (texts (turns_of links)) b.sink whole
+  pub part : TakesFront (text_of last.turn.at last.turn.answer) whole sink
 
--- the same, where the line that is begun is kept
-pub record SoFarWith (s : Start) (bytes line : List ℕ) (core : CoreView) (d : Meaning) (sink : SinkMeaning) : Type 0 where
+-- the last of them answers a line that had ended; some of the bytes were not looked at
+pub record CutShort (b : Begin) (bytes : List ℕ) (now : Moment) (sink : SinkMeaning) : Type 0 where
+  pub links : List Link
+  pub last : Link
+  pub cut : LastCut b links last now sink
+  pub rest : List ℕ
+  pub split : bytes ≡ joined (lines_of (turns_of (links ++ last ∷ []))) rest
+  pub lines : AreLines (lines_of (turns_of (links ++ last ∷ [])))
+
+-- the same as `SoFar`, where the line that is begun is kept
+pub record SoFarWith (b : Begin) (bytes line : List ℕ) (now : Moment) (sink : SinkMeaning) : Type 0 where
   pub begun : List ℕ
   pub is : line ≡ kept begun
-  pub so_far : SoFar s bytes begun core d sink
+  pub so_far : SoFar b bytes begun now sink
 
 -- after these further bytes: they were answered, or a text could not be put
-abbrev pub GoneOn : {E : Type 0} → Result Unit E → Start → List ℕ → List ℕ → CoreView → Meaning → SinkMeaning → Type 0
-GoneOn (Ok _) s bytes line core d sink = SoFarWith s bytes line core d sink
-GoneOn (Err _) s bytes line core d sink = CutShort s bytes core d sink
+abbrev pub GoneOn : {E : Type 0} → Result Unit E → Begin → List ℕ → List ℕ → Moment → SinkMeaning → Type 0
+GoneOn (Ok _) b bytes line now sink = SoFarWith b bytes line now sink
+GoneOn (Err _) b bytes line now sink = CutShort b bytes now sink
 
 -- a session goes on by these bytes
-abbrev pub Goes : {E : Type 0} → Start → List ℕ → List ℕ → Result Unit E → List ℕ → List ℕ → CoreView → CoreView → Meaning → Meaning → SinkMeaning → SinkMeaning → Type 0
-Goes s bytes more result line line' core core' d d' sink sink' =
-    s.device.tells_pages ≡ true → SoFarWith s bytes line core d sink → GoneOn result s (bytes ++ more) line' core' d' sink'
+abbrev pub Goes : {E : Type 0} → Begin → List ℕ → List ℕ → Result Unit E → List ℕ → List ℕ → Moment → Moment → SinkMeaning → SinkMeaning → Type 0
+Goes b bytes more result line line' from to sink sink' = SoFarWith b bytes line from sink → GoneOn result b (bytes ++ more) line' to sink'

@@ -1,14 +1,11 @@
-use Rattle.std.proofs.Common.{◌≡◌, ℕ, ◌<◌, false, Ok, Err, refl, sym, ◌∙◌, ap, subst, arith, add-one}
+use Rattle.std.proofs.Common.{◌≡◌, ℕ, ◌<◌, ◌≤◌, Ok, Err, refl, sym, ◌∙◌, ap, subst, arith, add-one}
 use Rattle.page_layout.specs.Shape.{map_pages}
-use Rattle.array_model.specs.Array.{writes_nothing}
-use Rattle.dedup_writer.specs.Core.{is_pending}
-use Rattle.dedup_writer.proofs.Quiet.{nothing}
-use Rattle.dedup_writer.proofs.FlushLemmas.{FlushedUpTo, settle_shape, settle_pages, settle_more, settle_fails, all_settled}
+use Rattle.dedup_writer.proofs.FlushLemmas.{FlushedUpTo, flushed_none, settle_shape, settle_pages, settle_more, flush_done, flush_fails}
 use Rattle.dedup_writer.proofs.store.Store.flush.Goals as goal
 
 pub loop-index-init : goal.loop-index-init
 loop-index-init g c = record {
-  so_far = λ mode a sf. record { call = nothing mode c.args.self.now (g.D.Device.seen c.args.device.now) a writes_nothing sf; flags = λ j lt. absurd (omega arith) };
+  so_far = flushed_none c.args.self.now (g.D.Device.seen c.args.device.now);
   shape = refl;
   pages = refl;
   faults = omega arith;
@@ -28,32 +25,26 @@ loop-index-preserved g c =
     let settles = c.in-Ok.ensures.settles in
     let in_range : i < map_pages c1.tables.shape = omega (arith, c.loop-index-test.true, c.map_pages-map_pages.ensures, ap map_pages was.shape) in
     record {
-      so_far = λ mode a sf. subst (λ (n : ℕ). FlushedUpTo mode a n c0 c2 d0 d2) (sym (add-one i)) (settle_more mode a i c0 c1 c2 d0 d1 d2 sf.tells_pages was.shape (was.so_far mode a sf) in_range settles);
+      so_far = subst (λ (n : ℕ). FlushedUpTo n c0 c2 d0 d2) (sym (add-one i)) (settle_more i c0 c1 c2 d0 d1 d2 was.so_far in_range settles);
       shape = settle_shape i c1 c2 d1 d2 (Ok tt) settles ∙ was.shape;
       pages = settle_pages i c1 c2 d1 d2 (Ok tt) settles ∙ was.pages;
       faults = omega (arith, was.faults, c.settle.ensures.cause.never_falls);
     }
 
-pub returns-in-Err-clause-array : goal.returns-in-Err-clause-array
-returns-in-Err-clause-array g c = λ mode a sf.
+pub returns-in-Err-clause-call : goal.returns-in-Err-clause-call
+returns-in-Err-clause-call g c =
     let seen = g.D.Device.seen in
     let was = c.loop-index.invariant in
     let in_range : c.loop-index.index < map_pages c.loop-index.self.tables.shape = omega (arith, c.loop-index-test.true, c.map_pages-map_pages.ensures, ap map_pages was.shape) in
-    settle_fails mode a c.loop-index.index c.args.self.now c.loop-index.self c.settle.new.self (seen c.args.device.now) (seen c.loop-index.device) (seen c.settle.new.device) sf.tells_pages was.shape (was.so_far mode a sf) in_range
-    (Err c.in-Err.failed) c.in-Err.ensures.settles
+    flush_fails c.loop-index.index c.args.self.now c.loop-index.self c.settle.new.self (seen c.args.device.now) (seen c.loop-index.device) (seen c.settle.new.device) c.in-Err.failed was.so_far in_range c.in-Err.ensures.settles
 
 pub returns-in-Err-clause-shape : goal.returns-in-Err-clause-shape
 returns-in-Err-clause-shape g c =
     settle_shape c.loop-index.index c.loop-index.self c.settle.new.self (g.D.Device.seen c.loop-index.device) (g.D.Device.seen c.settle.new.device) (Err c.in-Err.failed) c.in-Err.ensures.settles ∙ c.loop-index.invariant.shape
 
-pub returns-clause-array : goal.returns-clause-array
-returns-clause-array g c = λ mode a sf.
+pub returns-clause-call : goal.returns-clause-call
+returns-clause-call g c =
     let seen = g.D.Device.seen in
     let was = c.loop-index.invariant in
-    let done = was.so_far mode a sf in
-    let all : (j : ℕ) → j < map_pages c.loop-index.self.tables.shape → is_pending c.loop-index.self.tables j ≡ false = λ j lt. done.flags j (omega (arith, lt, c.loop-index-test.false, c.map_pages-map_pages.ensures, ap map_pages was.shape)) in
-    record {
-      stands = all_settled mode c.loop-index.self (seen c.loop-index.device) a all done.call.stands;
-      leaves = done.call.leaves;
-      counted = done.call.counted;
-    }
+    let all : map_pages c.loop-index.self.tables.shape ≤ c.loop-index.index = omega (arith, c.loop-index-test.false, c.map_pages-map_pages.ensures, ap map_pages was.shape) in
+    flush_done c.loop-index.index c.args.self.now c.loop-index.self (seen c.args.device.now) (seen c.loop-index.device) was.so_far all
