@@ -1,0 +1,9 @@
+pub mod Turns
+pub mod Crashes
+pub mod Arrays
+pub mod Served
+pub mod NewImage
+pub mod Formats
+pub mod Checks
+pub mod Partway
+pub mod Flushed
