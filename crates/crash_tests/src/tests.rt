@@ -1,4 +1,5 @@
 mod bench;
 mod faults;
 mod images;
+mod twice;
 mod whole;

@@ -1,7 +1,7 @@
 // Each device call of the session fails in turn, taken and not: the replies against a table made by hand, and
 // every image of every moment against the plain array.
 use crate::tests::bench::{command, ends, formatted};
-use crate::tests::images::{images_at, pages_of};
+use crate::tests::images::{holds, images_at, pages_of};
 use page_device::{MemDevice, Page};
 use plain_array::{
     Mode, Row, array_after, array_start, block_of, fits_reply, is_tight, may_be_left,
@@ -146,7 +146,7 @@ fn one_fails(
 // The number of the block that block 0 reads is this one.
 fn reads(alloc: Global, device: &mut MemDevice, number: u64) -> Result<bool, Fail> {
     let pages = pages_of(alloc, device)?;
-    Ok(block_of(&pages, 0).bytes() == Page::numbered(number).bytes())
+    Ok(holds(&block_of(&pages, 0), number))
 }
 
 // A row of the table.

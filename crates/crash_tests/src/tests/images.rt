@@ -71,15 +71,29 @@ pub fn pages_of(alloc: Global, device: &mut MemDevice) -> Result<Vec<Page>, Fail
     Ok(pages)
 }
 
-// Each image that a crash after so many calls may leave.
-pub fn images_at(alloc: Global, device: &MemDevice, at: u64) -> Result<Vec<Vec<Page>>, Fail> {
+// A device with each image that a crash after so many calls may leave.
+pub fn left_at(alloc: Global, device: &MemDevice, at: u64) -> Result<Vec<MemDevice>, Fail> {
     let most = written_since(device, at);
     let mut images = Vec::new(alloc);
     let mut choice = [0; 8];
     for _ in 0..choices(&most) {
-        let mut image = device.image(at, &choice)?;
-        images.push(pages_of(alloc, &mut image)?)?;
+        images.push(device.image(at, &choice)?)?;
         choice = next(choice, &most);
     }
     Ok(images)
+}
+
+// The pages of each of them.
+pub fn images_at(alloc: Global, device: &MemDevice, at: u64) -> Result<Vec<Vec<Page>>, Fail> {
+    let mut images = Vec::new(alloc);
+    for image in left_at(alloc, device, at)? {
+        let mut image = image;
+        images.push(pages_of(alloc, &mut image)?)?;
+    }
+    Ok(images)
+}
+
+// The page is the block of this number.
+pub fn holds(page: &Page, number: u64) -> bool {
+    page.bytes() == Page::numbered(number).bytes()
 }

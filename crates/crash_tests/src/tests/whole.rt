@@ -1,7 +1,7 @@
 // The session without a fault, against a table made by hand: a write puts the data page, the count page and
 // the map page, each with a barrier behind it, and takes a data page that no write took before.
 use crate::tests::bench::{ends, formatted};
-use crate::tests::images::images_at;
+use crate::tests::images::{holds, images_at};
 use page_device::{MemDevice, Page};
 use plain_array::{block_of, count_of, data_of, is_fit, map_of, names};
 use session::Status;
@@ -40,10 +40,6 @@ const TABLE: [(u64, Seen); 19] = [
     (11, (2, (1, 1), (5, 6), 6)),
     (12, (2, (1, 1), (5, 6), 6)),
 ];
-
-fn holds(page: &Page, number: u64) -> bool {
-    page.bytes() == Page::numbered(number).bytes()
-}
 
 // The image has this in its tables and data pages.
 fn has(pages: &[Page], seen: Seen) -> bool {
