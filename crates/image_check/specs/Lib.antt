@@ -1,3 +1,4 @@
 pub mod Verdicts
+pub mod Reads
 pub mod Steps
 pub mod Stops

@@ -1,9 +1,9 @@
 -- What is known of an image once so many of its pages, blocks or data pages were looked at.
-use Rattle.std.specs.Prelude.{◌≡◌, ℕ, ◌<◌, ◌≤◌, ◌==◌, nat_lt, ◌&&◌, if◌then◌else◌, Bool, List, Option, Some, None}
+use Rattle.std.specs.Prelude.{◌≡◌, ℕ, ◌+◌, ◌<◌, ◌≤◌, ◌==◌, nat_lt, ◌&&◌, if◌then◌else◌, Bool, List, Option, Some, None}
 use Rattle.page_device.specs.Block.{Block}
 use Rattle.page_layout.specs.declared.shape.Table.{Table}
-use Rattle.page_layout.specs.Shape.{ShapeView, first_data_page}
-use Rattle.page_layout.specs.Tables.{count_of}
+use Rattle.page_layout.specs.Shape.{ShapeView, print_pages, first_print_page, first_data_page}
+use Rattle.page_layout.specs.Tables.{page_of, count_of}
 use Rattle.page_layout.specs.Entries.{table_at, entries_of, IsEntry}
 use Rattle.array_model.specs.Images.{names}
 use Rattle.image_reader.specs.Formed.{IsFormed}
@@ -51,6 +51,10 @@ pub record IsReady (shape : ShapeView) (counts : List ℕ) (image : List Block) 
   pub formed : FormedBelow (first_data_page shape) shape image
   pub counted : (p : ℕ) → 1 ≤ p → p ≤ shape.pages → tally_of counts p ≡ count_of image p
   pub covered : (p : ℕ) → 1 ≤ p → p ≤ shape.pages → IsCovered image p
+
+-- the print pages of the image
+abbrev pub ArePrints : ShapeView → List Block → List Block → Type 0
+ArePrints shape prints image = (j : ℕ) → j < print_pages shape → page_of prints j ≡ page_of image (first_print_page shape + j)
 
 -- the first print on a data page that nothing counts, after one more was looked at
 abbrev pub noted_zero : Option ℕ → ℕ → Bool → ℕ → Option ℕ

@@ -1,12 +1,13 @@
 // The count pages are looked at: the first count that is too low.
 ghost use Rattle.std.specs.Prelude.{◌≡◌, ◌≤◌, ◌<◌, ◌+◌, ◌-◌, ◌*◌, min, ℕ, List, length, IfOk, IfErr};
 ghost use Rattle.page_device.specs.Block.{Block};
-ghost use Rattle.page_layout.specs.Shape.{total, first_count_page, first_print_page};
+ghost use Rattle.page_layout.specs.Shape.{total, count_pages, first_count_page, first_print_page};
 ghost use Rattle.page_layout.specs.Tables.{page_of, shape_of};
 ghost use Rattle.array_model.specs.Counting.{sum_below};
 ghost use Rattle.array_model.specs.Images.{names};
-ghost use Rattle.image_reader.specs.Looked.{Looked, Holds};
+ghost use Rattle.image_reader.specs.Looked.{Looked, Holds, Reads};
 ghost use Rattle.image_reader.specs.Tallies.{tally_of};
+ghost use Rattle.image_check.specs.Reads.{AtMost, StoppedFrom};
 ghost use Rattle.image_check.specs.Steps.{FormedBelow, CountsTo, NamesAre, noted};
 ghost use Rattle.image_check.specs.Stops.{StopCause};
 
@@ -81,7 +82,7 @@ fn compare_page(
     low
 }
 
-// Looks at all count pages, in order, up to the first malformed entry: where the tallies are the names
+// Looks at all count pages once, in order, up to the first malformed entry: where the tallies are the names
 // before, they are the counts after it. Answers the first low count.
 pub fn compare_counts<D: Device>(
     device: &mut D,
@@ -94,6 +95,9 @@ pub fn compare_counts<D: Device>(
     ensures pages { (D.seen device.new).pages ≡ (D.seen device.old).pages }
     ensures never_falls { (D.seen device.old).faults ≤ (D.seen device.new).faults }
     ensures cause { IfErr result (λ stop. StopCause shape.now (FormedBelow (first_count_page shape.now) shape.now) stop (D.seen device.old) (D.seen device.new)) }
+    ensures reads { IfOk result (λ _. Reads (count_pages shape.now) (D.seen device.old) (D.seen device.new)) }
+    ensures stopped { IfErr result (λ stop. StoppedFrom (first_count_page shape.now) stop (D.seen device.old) (D.seen device.new)) }
+    ensures few { AtMost (count_pages shape.now) (D.seen device.old) (D.seen device.new) }
     ensures length { IfOk result (λ _. length tallies.new.items ≡ shape.now.pages) }
     ensures formed { IfOk result (λ _. Holds (λ image. FormedBelow (first_count_page shape.now) shape.now image → FormedBelow (first_print_page shape.now) shape.now image) (D.seen device.old)) }
     ensures counts { IfOk result (λ low. Holds (λ image. shape_of image ≡ shape.now → NamesAre shape.now.pages image tallies.old.items → CountsTo shape.now.pages shape.now.pages image tallies.new.items low) (D.seen device.old)) }

@@ -1,9 +1,10 @@
 // The map pages are looked at: how many blocks name each data page.
 ghost use Rattle.std.specs.Prelude.{◌≡◌, ◌≤◌, length, replicate, IfOk, IfErr};
-ghost use Rattle.page_layout.specs.Shape.{total, first_count_page};
+ghost use Rattle.page_layout.specs.Shape.{total, map_pages, first_count_page};
 ghost use Rattle.page_layout.specs.Tables.{map_of};
-ghost use Rattle.image_reader.specs.Looked.{Looked, Holds};
+ghost use Rattle.image_reader.specs.Looked.{Looked, Holds, Reads};
 ghost use Rattle.image_reader.specs.Tallies.{NamesTo};
+ghost use Rattle.image_check.specs.Reads.{AtMost, StoppedFrom};
 ghost use Rattle.image_check.specs.Steps.{FormedBelow};
 ghost use Rattle.image_check.specs.Stops.{StopCause};
 
@@ -13,7 +14,8 @@ use image_reader::tally_page;
 use page_device::Device;
 use page_layout::Shape;
 
-// Looks at all map pages, in order, up to the first malformed entry. Answers how many blocks are mapped.
+// Looks at all map pages once, in order, up to the first malformed entry. Answers how many blocks are
+// mapped.
 pub fn tally_maps<D: Device>(
     device: &mut D,
     shape: &Shape,
@@ -25,6 +27,9 @@ pub fn tally_maps<D: Device>(
     ensures pages { (D.seen device.new).pages ≡ (D.seen device.old).pages }
     ensures never_falls { (D.seen device.old).faults ≤ (D.seen device.new).faults }
     ensures cause { IfErr result (λ stop. StopCause shape.now (FormedBelow 1 shape.now) stop (D.seen device.old) (D.seen device.new)) }
+    ensures reads { IfOk result (λ _. Reads (map_pages shape.now) (D.seen device.old) (D.seen device.new)) }
+    ensures stopped { IfErr result (λ stop. StoppedFrom 1 stop (D.seen device.old) (D.seen device.new)) }
+    ensures few { AtMost (map_pages shape.now) (D.seen device.old) (D.seen device.new) }
     ensures length { IfOk result (λ _. length tallies.new.items ≡ shape.now.pages) }
     ensures formed { IfOk result (λ _. Holds (λ image. FormedBelow 1 shape.now image → FormedBelow (first_count_page shape.now) shape.now image) (D.seen device.old)) }
     ensures names { IfOk result (λ mapped. Holds (λ image. NamesTo shape.now.pages shape.now.blocks (map_of image) tallies.new.items mapped) (D.seen device.old)) }

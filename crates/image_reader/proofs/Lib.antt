@@ -3,3 +3,4 @@ pub mod TablesAt
 pub mod WellFormed
 pub mod ZeroTables
 pub mod Naming
+pub mod Pushed

@@ -48,6 +48,7 @@ pub fn find_shape<D: Device>(device: &mut D) -> Result<Option<Shape>, Failed>
     ensures cause { HasCause result (D.seen device.old) (D.seen device.new) }
     ensures looked { Looked (D.seen device.old) (D.seen device.new) }
     ensures reads { Reads 0 (D.seen device.old) (D.seen device.new) ⊎ Reads 1 (D.seen device.old) (D.seen device.new) }
+    ensures no_page { (D.seen device.new).pages ≡ 0 → Reads 0 (D.seen device.old) (D.seen device.new) }
     ensures one { IfOk result (λ found. IfSome found (λ _. Reads 1 (D.seen device.old) (D.seen device.new))) }
     ensures none { IfOk result (λ found. IfNone found (Holds (λ image. ¬ HasShape image) (D.seen device.old))) }
     ensures enough { IfOk result (λ found. IfSome found (λ shape. total shape ≤ (D.seen device.new).pages)) }

@@ -1,7 +1,7 @@
 use Rattle.std.proofs.Common.{◌≡◌, ◌≤◌, ◌*◌, ◌-◌, min, length}
 use Rattle.page_layout.specs.Shape.{first_count_page}
 use Rattle.page_layout.specs.Tables.{shape_of}
-use Rattle.image_reader.specs.Looked.{Looked, Holds}
+use Rattle.image_reader.specs.Looked.{Looked, Holds, Reads}
 use Rattle.image_check.specs.Steps.{FormedBelow, NamesAre, CountsTo}
 use Rattle.image_check.proofs.counts.compare_counts.Given as goal
 
@@ -12,6 +12,7 @@ invariant-loop-k g l =
       looked : Looked (seen l.fn.device) (seen l.device);
       pages : (seen l.device).pages ≡ (seen l.fn.device).pages;
       faults : (seen l.fn.device).faults ≤ (seen l.device).faults;
+      reads : Reads (l.k - first_count_page l.fn.shape) (seen l.fn.device) (seen l.device);
       length : length l.tallies.items ≡ l.fn.shape.pages;
       formed : Holds (λ image. FormedBelow (first_count_page l.fn.shape) l.fn.shape image → FormedBelow l.k l.fn.shape image) (seen l.fn.device);
       counts : Holds (λ image. shape_of image ≡ l.fn.shape → NamesAre l.fn.shape.pages image l.fn.tallies.items
