@@ -7,46 +7,13 @@ use Rattle.order_model.specs.declared.Slot.{Slot}
 use Rattle.birth_marks.specs.declared.births.Met.{Met}
 use Rattle.birth_marks.specs.declared.births.Pair.{Pair}
 use Rattle.birth_marks.specs.declared.births.Record.{Record}
-use Rattle.birth_marks.specs.contracts.births.PairPartialEq.TheImpl.{eq-value as same_pair}
 use Rattle.order_model.specs.Calls.{same_slot}
 use Rattle.birth_marks.specs.declared.pages.Mark.{Mark}
 use Rattle.birth_marks.specs.Pages.{PagesView, is_known, mark_of, settled}
 use Rattle.birth_marks.specs.Births.{BirthsView, FixedAll, is_live, left_in, page_in}
 use Rattle.birth_marks.specs.Kept.{AreBehind, SettledSoFar, Swept}
-use Rattle.birth_marks.proofs.TableLemmas.{pair_is, slot_is}
 
 module _ (pages : PagesView) (rs : List (Slot × Record)) (ms : List (Pair × Met)) (rs' : List (Slot × Record)) (ms' : List (Pair × Met)) (k : Swept pages rs ms rs' ms') where
-  -- one slot more that is not recorded
-  module _ (pair : Pair) (rs'' : List (Slot × Record)) (ms'' : List (Pair × Met)) (off : is_live pages (lookup (same_slot pair.slot) rs') ≡ false)
-      (records : (s : Slot) → lookup (same_slot s) rs'' ≡ cond (same_slot pair.slot s) None (lookup (same_slot s) rs'))
-      (moments : (q : Pair) → lookup (same_pair.it q) ms'' ≡ cond (same_pair.it pair q) None (lookup (same_pair.it q) ms')) where
-    not_here : (s : Slot) → is_live pages (lookup (same_slot s) rs) ≡ true → same_slot pair.slot s ≡ true → ⊥
-    not_here s on e = let at = slot_is pair.slot s e in
-        let live : is_live pages (lookup (same_slot s) rs') ≡ true = ap (is_live pages) (k.live s on) ∙ on in
-        let dead : is_live pages (lookup (same_slot s) rs') ≡ false = ap (λ t. is_live pages (lookup (same_slot t) rs')) (sym at) ∙ off in
-        let no : true ≡ false = sym live ∙ dead in
-        cc
-
-    pub swept_one : Swept pages rs ms rs'' ms''
-    swept_one = record {
-      live = λ s on. elim (cases_Bool (same_slot pair.slot s)) [
-        | inl e ↦ absurd (not_here s on e)
-        | inr e ↦ records s ∙ rw e (k.live s on)
-      ];
-      were = λ s r h. elim (cases_Bool (same_slot pair.slot s)) [
-        | inl e ↦ let no : None ≡ Some r = sym (records s ∙ rw e) ∙ h in absurd (cc)
-        | inr e ↦ k.were s r (sym (records s ∙ rw e) ∙ h)
-      ];
-      met = λ s v on. elim (cases_Bool (same_slot pair.slot s)) [
-        | inl e ↦ absurd (not_here s on e)
-        | inr e ↦ moments (record { slot = s; value = v }) ∙ rw (pair_is pair.slot s pair.value v, e) (k.met s v on)
-      ];
-      noted = λ q m h. elim (cases_Bool (same_pair.it pair q)) [
-        | inl e ↦ let no : None ≡ Some m = sym (moments q ∙ rw e) ∙ h in absurd (cc)
-        | inr e ↦ k.noted q m (sym (moments q ∙ rw e) ∙ h)
-      ];
-    }
-
   pub swept_behind : (spare moment : ℕ) → AreBehind (record { records = rs; moments = ms; pages = pages; spare = spare }) moment
       → AreBehind (record { records = rs'; moments = ms'; pages = pages; spare = spare }) moment
   swept_behind spare moment is = record {

@@ -18,7 +18,7 @@ use Rattle.birth_marks.specs.Kept.{AreBehind}
 
 module _ (pages later : PagesView) where
   -- of pages that were not settled since
-  live_same : ((p : ℕ) → (mark_of later p).settled_at ≡ (mark_of pages p).settled_at) → (r s : Option Record) → s ≡ r → is_live later s ≡ is_live pages r
+  pub live_same : ((p : ℕ) → (mark_of later p).settled_at ≡ (mark_of pages p).settled_at) → (r s : Option Record) → s ≡ r → is_live later s ≡ is_live pages r
   live_same same None s e = rw e
   live_same same (Some r) s e = rw e (rw (same r.page))
 
@@ -172,7 +172,7 @@ slot_is (Print a) (Print b) h = ap Print (eqb-true a b h)
 slot_is (Name a) (Print b) h = absurd (cc)
 slot_is (Print a) (Name b) h = absurd (cc)
 
-slot_same : (s : Slot) → same_slot s s ≡ true
+pub slot_same : (s : Slot) → same_slot s s ≡ true
 slot_same (Name a) = eq-eqb a a refl
 slot_same (Print a) = eq-eqb a a refl
 

@@ -123,6 +123,11 @@ pub record FixedAll (old new : BirthsView) : Type 0 where
   pub met : (s : Slot) (v : ℕ) → met_in new s v ≡ (recorded_in new s && met_in old s v)
   pub written : (s : Slot) → recorded_in new s ≡ true → written_in new (place_in old s) ≡ written_in old (place_in old s)
 
+-- Nothing is kept of a slot that is not recorded, nor of a value that it has not met.
+pub record KeepsRecorded (b : BirthsView) : Type 0 where
+  pub slots : (s : Slot) (r : Record) → record_in b s ≡ Some r → recorded_in b s ≡ true
+  pub values : (s : Slot) (v : ℕ) (m : Met) → moment_in b s v ≡ Some m → met_in b s v ≡ true
+
 -- Each slot stands on its page, and what is recorded is what the calls say.
 pub record Remembers (place : Slot → ℕ) (b : BirthsView) (calls : List Call) : Type 0 where
   pub recorded : (s : Slot) → recorded_in b s ≡ is_changed s (since (place s) calls)

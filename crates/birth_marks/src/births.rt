@@ -5,8 +5,8 @@ ghost use Rattle.std.specs.Map.{lookup};
 ghost use Rattle.birth_marks.specs.contracts.births.PairPartialEq.TheImpl.{eq-value as same_pair};
 ghost use Rattle.order_model.specs.Calls.{same_slot};
 ghost use Rattle.birth_marks.specs.Pages.{is_known, mark_of, settled};
-ghost use Rattle.birth_marks.specs.Kept.{Swept};
-ghost use Rattle.birth_marks.specs.Births.{Changed, FixedAll, PlacedAt, Same, TriedAt, WrittenAt, first_of, is_after, is_live, is_tried, is_unborn_in, place_in, record_in, recorded_in, value_in};
+ghost use Rattle.birth_marks.specs.Kept.{AreBehind, AreLinked, Gone, HeadsPage, Swept};
+ghost use Rattle.birth_marks.specs.Births.{Changed, FixedAll, KeepsRecorded, PlacedAt, Same, TriedAt, WrittenAt, first_of, is_after, is_tried, is_unborn_in, place_in, record_in, recorded_in, value_in};
 
 use crate::pages::Pages;
 use crate::{NoMemory, Slot};
@@ -55,13 +55,15 @@ pub struct Births {
 impl Model for Births {
     ghost use Rattle.std.specs.HashMap.{spare as room_of};
     ghost use Rattle.birth_marks.specs.Births.{BirthsView};
-    ghost use Rattle.birth_marks.specs.Kept.{AreBehind, HasRoom};
+    ghost use Rattle.birth_marks.specs.Kept.{AreBehind, AreLinked, HasRoom};
 
     ghost Value = { BirthsView };
 
     ghost view = { λ b. record { records = b.records.entries; moments = b.moments.entries; pages = b.pages; spare = b.spare } };
 
-    ghost invariant = { λ b. AreBehind (record { records = b.records.entries; moments = b.moments.entries; pages = b.pages; spare = b.spare }) b.moment × HasRoom b.spare b.pages.spare (room_of b.records) (room_of b.moments) b.moment };
+    ghost invariant = { λ b. AreBehind (record { records = b.records.entries; moments = b.moments.entries; pages = b.pages; spare = b.spare }) b.moment
+        × AreLinked (record { records = b.records.entries; moments = b.moments.entries; pages = b.pages; spare = b.spare }) b.moment
+        × HasRoom b.spare b.pages.spare (room_of b.records) (room_of b.moments) b.moment };
 }
 
 // When the slot was first changed since its page was settled, if that is not now.
@@ -101,56 +103,42 @@ fn put(records: &mut HashMap<Slot, Record>, slot: Slot, last: Record)
     let _ = records.insert(slot, last);
 }
 
-// Takes out what was noted for a page before it was settled, from the pair that was noted last on.
-fn sweep(
-    pages: &Pages,
-    records: &mut HashMap<Slot, Record>,
-    moments: &mut HashMap<Pair, Met>,
-    last: Option<Pair>,
-)
-    ensures swept { Swept pages.now records.old.entries moments.old.entries records.new.entries moments.new.entries }
+// Takes out what is kept for a page, from the pair that was noted last for it on.
+fn sweep(records: &mut HashMap<Slot, Record>, moments: &mut HashMap<Pair, Met>, last: Option<Pair>)
+    ensures none { last ≡ None → (records.new.entries ≡ records.old.entries) × (moments.new.entries ≡ moments.old.entries) }
+    ensures gone { (page moment : ℕ) → HeadsPage page moment last records.old.entries moments.old.entries
+        → Gone page records.old.entries moments.old.entries records.new.entries moments.new.entries }
     ensures room { (room_of records.old ≤ room_of records.new) × (room_of moments.old ≤ room_of moments.new) }
 {
     let mut next = last;
     while let Some(pair) = next {
-        if is_recorded(pages, records, pair.slot) {
+        let Some(met) = moments.remove(&pair) else {
             return;
-        }
-        next = match moments.remove(&pair) {
-            Some(met) => met.before,
-            None => return,
         };
         let _ = records.remove(&pair.slot);
+        next = met.before;
     }
 }
 
-// Whether the slot was changed since its page was settled.
-fn is_recorded(pages: &Pages, records: &HashMap<Slot, Record>, slot: Slot) -> bool
-    ensures { result ≡ is_live pages.now (lookup (same_slot slot) records.now.entries) }
-{
-    match records.get(&slot) {
-        Some(record) => record.moment > pages.mark(record.page).settled_at,
-        None => false,
-    }
-}
-
-// Settles the pages that were written with no change since, and takes out what was noted for them.
+// Settles the pages that were written with no change since, and takes out what is kept for them.
 fn settle_all(
     pages: &mut Pages,
     records: &mut HashMap<Slot, Record>,
     moments: &mut HashMap<Pair, Met>,
     moment: u64,
 )
-    requires { (p : ℕ) → (mark_of pages.old p).settled_at ≤ moment }
+    requires behind { AreBehind (record { records = records.old.entries; moments = moments.old.entries; pages = pages.old; spare = 0 }) moment }
+    requires linked { AreLinked (record { records = records.old.entries; moments = moments.old.entries; pages = pages.old; spare = 0 }) moment }
     ensures mark { (p : ℕ) → mark_of pages.new p ≡ settled moment (mark_of pages.old p) }
     ensures known { (p : ℕ) → is_known pages.new p ≡ is_known pages.old p }
     ensures spare { pages.new.spare ≡ pages.old.spare }
     ensures swept { Swept pages.new records.old.entries moments.old.entries records.new.entries moments.new.entries }
+    ensures linked { AreLinked (record { records = records.new.entries; moments = moments.new.entries; pages = pages.new; spare = 0 }) moment }
     ensures room { (room_of records.old ≤ room_of records.new) × (room_of moments.old ≤ room_of moments.new) }
 {
     while pages.has_listed() {
         let last = pages.settle(moment);
-        sweep(pages, records, moments, last);
+        sweep(records, moments, last);
     }
 }
 
@@ -331,10 +319,11 @@ impl Births {
     /// A barrier was made: the pages that were written with no change since are settled, and their slots are recorded no longer.
     ///
     /// It costs a step for each page that was written since the last barrier and had a recorded slot, and the slots of those that are
-    /// settled, with the values that they met. Other pages cost nothing. No clause says that what is recorded no longer takes no memory:
-    /// its room goes to later changes.
+    /// settled, with the values that they met. Other pages cost nothing. Of what is recorded no longer nothing is kept: its room goes to
+    /// later changes. Each page that ever had a recorded slot keeps its mark.
     pub fn fixed(&mut self)
         ensures fixed { FixedAll self.old self.new }
+        ensures kept { KeepsRecorded self.new }
         ensures spare { self.new.spare ≡ self.old.spare }
     {
         settle_all(

@@ -7,6 +7,7 @@ use Rattle.order_model.specs.Calls.{same_slot}
 use Rattle.birth_marks.specs.Births.{BirthsView, first_of, is_after, is_tried, moment_in, place_in, record_in, recorded_in, value_in}
 use Rattle.birth_marks.specs.declared.pages.Mark.{Mark}
 use Rattle.birth_marks.specs.Pages.{mark_of}
+use Rattle.birth_marks.proofs.KeptLemmas.{changed_linked}
 use Rattle.birth_marks.proofs.TableLemmas.{changed_behind, changed_is, placed_is}
 use Rattle.birth_marks.proofs.births.Births.change.Goals as goal
 
@@ -42,11 +43,13 @@ pub invariant_of-self : goal.invariant_of-self
 invariant_of-self c = (
   changed_behind (before c) _ c.args.slot c.args.at c.args.from c.args.to c.self.inside.moment c.self.invariant.0 c.live-was.result (was_is c) (records_are c) _ (moments_are c) _ (last_is c) c.change.ensures.mark c.change.ensures.known
       (subst (λ b. recorded_in b c.args.slot ≡ true → place_in b c.args.slot ≡ c.args.at) (sym c.self.view_is) c.requires.place),
+  changed_linked (before c) _ c.args.slot c.args.at c.args.from c.args.to c.self.inside.moment c.self.invariant.0 c.self.invariant.1 c.live-was.result (was_is c) (records_are c) _ (ap (λ (m : Mark). m.last) c.mark-before.ensures) (moments_are c) _ (last_is c) c.change.ensures.mark
+      (subst (λ b. recorded_in b c.args.slot ≡ true → place_in b c.args.slot ≡ c.args.at) (sym c.self.view_is) c.requires.place),
   record {
-    pages_fit = omega (arith, c.change.ensures.spare, c.self.invariant.1.pages_fit);
-    records_fit = omega (arith, c.put.ensures.room, c.self.invariant.1.records_fit);
-    moments_fit = omega (arith, c.note.ensures.room, c.self.invariant.1.moments_fit);
-    few = let same : c.self.inside.spare ≡ c.args.self.now.spare = ap (λ (b : BirthsView). b.spare) c.self.view_is in omega (arith, c.self.invariant.1.few, c.requires.spare);
+    pages_fit = omega (arith, c.change.ensures.spare, c.self.invariant.2.pages_fit);
+    records_fit = omega (arith, c.put.ensures.room, c.self.invariant.2.records_fit);
+    moments_fit = omega (arith, c.note.ensures.room, c.self.invariant.2.moments_fit);
+    few = let same : c.self.inside.spare ≡ c.args.self.now.spare = ap (λ (b : BirthsView). b.spare) c.self.view_is in omega (arith, c.self.invariant.2.few, c.requires.spare);
   },
 )
 
