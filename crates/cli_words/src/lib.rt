@@ -50,6 +50,12 @@ use settings::job_of_values;
 pub const USAGE: &str =
     "usage: omd_tool IMAGE ACTION [--blocks N] [--pages N] [--cache N] [--policy N] [--seed N] [--count N]";
 
+/// A call of the tool from the top of the repository, in one line without its end.
+pub const EXAMPLE: &str = "example: ./omd disk.img format --blocks 4 --pages 4";
+
+/// The page of the manual, in one line without its end.
+pub const MANUAL: &str = "manual: man -l docs/omd.1";
+
 /// The job that the words after the image's path mean, by the grammar at the head of this crate.
 ///
 /// It answers `Usage` exactly where the words are not in the grammar, unless memory runs out first. `NoMemory` comes only

@@ -1,4 +1,4 @@
-use crate::{Job, USAGE, WordsError, words};
+use crate::{EXAMPLE, Job, MANUAL, USAGE, WordsError, words};
 use std::alloc::{AllocError, Global};
 use std::test::Fail;
 
@@ -164,4 +164,9 @@ fn shows_how_it_is_called(rt: HostRuntime) {
         USAGE,
         "usage: omd_tool IMAGE ACTION [--blocks N] [--pages N] [--cache N] [--policy N] [--seed N] [--count N]"
     );
+    assert_eq!(rt;
+        EXAMPLE,
+        "example: ./omd disk.img format --blocks 4 --pages 4"
+    );
+    assert_eq!(rt; MANUAL, "manual: man -l docs/omd.1");
 }

@@ -7,7 +7,7 @@
 #![tactic(auto)]
 
 use byte_ports::{StdSink, StdSource};
-use cli_words::USAGE;
+use cli_words::{EXAMPLE, MANUAL, USAGE};
 use page_device::FileDevice;
 use session::{Status, run};
 use std::alloc::{AllocError, Global};
@@ -99,7 +99,7 @@ fn main(rt: HostRuntime) -> ExitCode {
         Err(why) => unread(&why),
     };
     if status == Status::Usage {
-        let _ = eprintln!(rt; "{USAGE}");
+        let _ = eprintln!(rt; "{USAGE}\n{EXAMPLE}\n{MANUAL}");
     }
     ExitCode::from(status.number())
 }
