@@ -1,5 +1,5 @@
 -- Why the two added facts are needed.
-use Rattle.std.proofs.Common.{◌≡◌, ◌⊎◌, inl, inr, ◌+◌, ◌≤◌, ℕ, Bool, true, false, cond, ◌&&◌, ◌||◌, arith, refl, sym, ap, ◌∙◌, List, [], ◌∷◌, Some, None, true≢false, eqb, ne_eqb, get_or}
+use Rattle.std.proofs.Common.{◌≡◌, ◌⊎◌, inl, inr, ◌+◌, ◌≤◌, ℕ, Bool, true, false, ◌&&◌, ◌||◌, arith, refl, sym, ap, ◌∙◌, List, [], ◌∷◌, Some, None, true≢false, eqb, ne_eqb, get_or}
 use Rattle.std.specs.Prelude.{if◌then◌else◌}
 use Rattle.std.proofs.lemmas.Bool.{cases_eq}
 use Rattle.order_model.specs.World.{Possible, Queued, IsData}

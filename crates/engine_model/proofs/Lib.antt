@@ -55,3 +55,14 @@ pub mod Flushes
 pub mod SetNames
 pub mod Lowered
 pub mod GivenUp
+pub mod Ways
+pub mod AppliedFrames
+pub mod StaysBlocked
+pub mod PassKeeps
+pub mod LooksAgain
+pub mod Ordering
+pub mod AppliedComposes
+pub mod PassEffects
+pub mod PassExamples
+pub mod PassRoom
+pub mod FreedPage

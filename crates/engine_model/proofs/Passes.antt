@@ -145,6 +145,9 @@ queue_empty : (lay : Layout) (top : ℕ) (m : Moment) (ns : List Moment) → m.w
 queue_empty lay top m [] z r = z
 queue_empty lay top m (n ∷ ns) z r = queue_empty lay top n ns (queue_left lay top m n r.0 z) r.1
 
+pub drops_queue : (lay : Layout) (m n : Moment) (p : ℕ) → Drops lay m n p → n.world.queue ≡ m.world.queue
+drops_queue lay m n p x = elim x.world [ inl e ↦ e.queue | inr d ↦ d.queue ]
+
 module _ (lay : Layout) (top : ℕ) (sound : Bool) (apart : Apart lay) where
   lowers_keeps : (m n : Moment) (r : Release) (before after : List Release) → EngineInvariant lay top sound m → Lowers lay m n r before after → EngineInvariant lay top sound n
   lowers_keeps m n r before after k x = step_keeps lay top sound apart m n k (ReleaseApplied r before after x.applied x.data_kept x.array x.births x.pool)
@@ -233,9 +236,6 @@ module _ (lay : Layout) (top : ℕ) (sound : Bool) (apart : Apart lay) where
     ]
   ]
 
-  drops_queue : (m n : Moment) (p : ℕ) → Drops lay m n p → n.world.queue ≡ m.world.queue
-  drops_queue m n p x = elim x.world [ inl e ↦ e.queue | inr d ↦ d.queue ]
-
   pub pass_leaves : (m n : Moment) (kept todo : List Release) → EngineInvariant lay top sound m → m.world.queue ≡ kept ++ todo → AllBlocked lay m kept → Pass lay m kept todo n
       → EngineInvariant lay top sound n × AllBlocked lay n n.world.queue
   pass_leaves m n kept [] k queue all p = subst (λ z. EngineInvariant lay top sound z × AllBlocked lay z z.world.queue) (sym p)
@@ -246,7 +246,7 @@ module _ (lay : Layout) (top : ℕ) (sound : Bool) (apart : Apart lay) where
       let j = p.0 in
       let low = lowers_keeps m j r kept todo k p.2 in
       let next = drops_keeps j p.1 r.page low p.3 in
-      pass_leaves p.1 n kept todo next (drops_queue j p.1 r.page p.3 ∙ p.2.applied.removed)
+      pass_leaves p.1 n kept todo next (drops_queue lay j p.1 r.page p.3 ∙ p.2.applied.removed)
       (λ x is. drops_blocked j p.1 r.page x low p.3 (other_range m j r x kept todo k p.2 is) (lowers_blocked m j r x kept todo k p.2 is (all x is))) p.4
 
   -- where no map page waits and each edge leads from a print page to a count page, nothing is blocked
@@ -275,7 +275,7 @@ module _ (lay : Layout) (top : ℕ) (sound : Bool) (apart : Apart lay) where
           | inr f ↦ ((r.page, range.1, f.1), (r.page, range.1, new.1))
         ]
       ] in
-      pass_empties p.1 n todo (drops_keeps j p.1 r.page low p.3) (drops_queue j p.1 r.page p.3 ∙ p.2.applied.removed) (λ x is. late x (inr is))
+      pass_empties p.1 n todo (drops_keeps j p.1 r.page low p.3) (drops_queue lay j p.1 r.page p.3 ∙ p.2.applied.removed) (λ x is. late x (inr is))
       (λ a b h. now a b (drops_live j p.1 r.page low p.3 a b h)) p.4
     where
       drops_live : (j n : Moment) (p : ℕ) → EngineInvariant lay top sound j → Drops lay j n p → (a b : ℕ) → n.world.live a b ≡ true → j.world.live a b ≡ true

@@ -103,7 +103,7 @@ put_formed lay w page c here was a t = elim (cases_eq a page) [
 pub some_edge : (w : World) (before after a b : ℕ) → (w.live a b || (eqb a before && eqb b after)) ≡ true → (w.live a b ≡ true) ⊎ ((a ≡ before) × (b ≡ after))
 some_edge w before after a b h = elim (or_cases _ _ h) [ inl was ↦ inl was | inr new ↦ let q = and_parts _ _ new in inr (eqb-true a before q.0, eqb-true b after q.1) ]
 
-some_barred : (w : World) (before after a b : ℕ) → (w.barred a b || (eqb a before && eqb b after)) ≡ true → (w.barred a b ≡ true) ⊎ ((a ≡ before) × (b ≡ after))
+pub some_barred : (w : World) (before after a b : ℕ) → (w.barred a b || (eqb a before && eqb b after)) ≡ true → (w.barred a b ≡ true) ⊎ ((a ≡ before) × (b ≡ after))
 some_barred w before after a b h = elim (or_cases _ _ h) [ inl was ↦ inl was | inr new ↦ let q = and_parts _ _ new in inr (eqb-true a before q.0, eqb-true b after q.1) ]
 
 module _ (lay : Layout) (top : ℕ) (sound : Bool) (apart : Apart lay) (m : Moment) (k : EngineInvariant lay top sound m) where

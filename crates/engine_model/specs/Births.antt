@@ -1,5 +1,5 @@
 -- What the calls that birth_marks is told, the latest first, say of the possible values of a slot.
-use Rattle.std.specs.Prelude.{Bool, List, None, Option, Some, [], cond, eqb, false, not, true, ℕ, ◌&&◌, ◌<◌, ◌||◌, ◌∷◌, ◌≡◌, ◌⊎◌}
+use Rattle.std.specs.Prelude.{List, None, Option, Some, [], cond, false, true, ℕ, ◌<◌, ◌∷◌, ◌≡◌, ◌⊎◌}
 use Rattle.order_model.specs.World.{IsData, Layout, Possible, World}
 use Rattle.order_model.specs.declared.Slot.{Slot}
 use Rattle.order_model.specs.declared.Slot.TheVariants.{Name, Print}

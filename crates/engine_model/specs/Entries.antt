@@ -1,5 +1,5 @@
 -- The entries of the tables: which page serves what, and what a state holds of names, counts and prints in the cache, on the device as it is read, and in what a crash may leave.
-use Rattle.std.specs.Prelude.{List, Option, Some, eqb, false, true, ℕ, ◌<◌, ◌≡◌, ◌≢◌, ◌≤◌, ◌⊎◌}
+use Rattle.std.specs.Prelude.{List, Option, Some, eqb, false, true, ℕ, ◌<◌, ◌≡◌, ◌≢◌, ◌⊎◌}
 use Rattle.order_model.specs.World.{IsData, Layout, Possible, World}
 use Rattle.order_model.specs.Counting.{count_below}
 

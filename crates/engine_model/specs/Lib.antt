@@ -17,6 +17,11 @@ pub mod Images
 pub mod Schedule
 pub mod SmallRuns
 pub mod Pass
+pub mod SmallPass
+pub mod LookingAgain
+pub mod AnyDevice
+pub mod PassEffects
+pub mod Room
 pub mod Scan
 pub mod Tight
 pub mod VersionSwitch
@@ -30,3 +35,4 @@ pub mod FlushSession
 pub mod SmallSession
 pub mod Pair
 pub mod Counterexamples
+pub mod PassExamples

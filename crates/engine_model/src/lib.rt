@@ -5,6 +5,7 @@
 //! what it needs. `docs/RULES.md` tells the argument in prose.
 #![tactic(auto)]
 
+pub mod any_device;
 pub mod barriers;
 pub mod births_known;
 pub mod bridges;
@@ -13,6 +14,7 @@ pub mod crash_images;
 pub mod editing;
 pub mod free_pages;
 pub mod giving_up;
+pub mod looking_again;
 pub mod needed;
 pub mod no_waste;
 pub mod possible;
@@ -21,6 +23,7 @@ pub mod releases;
 pub mod resting;
 pub mod scanning;
 pub mod schedules;
+pub mod small_passes;
 pub mod small_steps;
 pub mod version;
 pub mod writes;

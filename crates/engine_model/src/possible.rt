@@ -9,10 +9,13 @@ ghost use Rattle.engine_model.specs.FlushSession.{count_out, flush_moments, flus
 ghost use Rattle.engine_model.specs.Invariant.{EngineInvariant, ToldPool, known_at};
 ghost use Rattle.engine_model.specs.Known.{Tells};
 ghost use Rattle.engine_model.specs.Pair.{equal_pages, folded, pair};
+ghost use Rattle.engine_model.specs.AnyDevice.{IsOrdered};
 ghost use Rattle.engine_model.specs.Pass.{Pass};
+ghost use Rattle.engine_model.specs.PassExamples.{all_gone, late, late_out, stuck};
 ghost use Rattle.engine_model.specs.Releases.{Applied};
 ghost use Rattle.engine_model.specs.Schedule.{Run};
 ghost use Rattle.engine_model.specs.Session.{count_gone, discarded, dropped, mounted, wrote};
+ghost use Rattle.engine_model.specs.SmallPass.{SmallPass};
 ghost use Rattle.engine_model.specs.SmallRuns.{SmallRun, SmallStep};
 ghost use Rattle.engine_model.specs.SmallSession.{content_placed, small_moments};
 ghost use Rattle.engine_model.specs.SmallSteps.{touched};
@@ -56,4 +59,12 @@ pub fn a_flush_is_possible()
 /// After the flush the version is changed.
 pub fn a_switch_is_possible()
     ensures run { SwitchStart printed 5 true flushed × SwitchRun printed (9 ∷ []) flushed flushed switch_moments }
+{}
+
+/// A release of an unborn name and print is applied and its content given up, one takes the last print away under its
+/// edge, and one stays.
+pub fn passes_are_possible()
+    ensures gives_up { EngineInvariant printed 5 true discarded × SmallPass printed discarded [] discarded.world.queue all_gone }
+    ensures last_print { IsOrdered printed late.world × SmallPass printed late [] late.world.queue late_out }
+    ensures stays { IsOrdered printed stuck.world × SmallPass printed stuck [] stuck.world.queue stuck }
 {}

@@ -1,0 +1,17 @@
+-- What holds of marks, edges and queue on every device, honest or not.
+use Rattle.std.specs.Prelude.{◌≡◌, ◌<◌, ℕ, List, true}
+use Rattle.order_model.specs.World.{Layout, Queued, Release, World, IsData}
+use Rattle.engine_model.specs.Counts.{EdgeKinds}
+
+pub record IsOrdered (lay : Layout) (w : World) : Type 0 where
+  -- a Live edge begins at a dirty page, and each edge is of an allowed kind
+  pub live_before : (a b : ℕ) → w.live a b ≡ true → w.dirty a ≡ true
+  pub edge_kinds : EdgeKinds lay w
+  -- a release whose map page was not written since has it dirty, and one whose map page was written and not fixed has it hung; each is of a block and a data page
+  pub zero_dirty : (l p : ℕ) → Queued w.queue l p 0 → w.dirty (lay.map_page l) ≡ true
+  pub one_hung : (l p : ℕ) → Queued w.queue l p 1 → w.hung (lay.map_page l) ≡ true
+  pub in_range : (l p stage : ℕ) → Queued w.queue l p stage → (l < lay.blocks) × IsData lay p
+
+-- each of these releases is one of those
+abbrev pub FewerQueued : List Release → List Release → Type 0
+FewerQueued less rs = (l p stage : ℕ) → Queued less l p stage → Queued rs l p stage
