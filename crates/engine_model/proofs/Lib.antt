@@ -66,3 +66,4 @@ pub mod PassEffects
 pub mod PassExamples
 pub mod PassRoom
 pub mod FreedPage
+pub mod CleanPages

@@ -27,6 +27,10 @@ count_pages pages = (pages + 1023) / 1024
 abbrev pub print_pages : ℕ → ℕ
 print_pages pages = (pages + 169) / 170
 
+-- all pages of a device: the first one, those of the three tables, and the data pages
+abbrev pub pages_of : ℕ → ℕ → ℕ
+pages_of blocks pages = 1 + map_pages blocks + count_pages pages + print_pages pages + pages
+
 abbrev pub print_at : List ℕ → ℕ → Option (List ℕ)
 print_at c i = cond (eqb (get_or c i 0) 1) (Some (take 20 (drop (i + 4) c))) None
 

@@ -68,6 +68,10 @@ pub record Same (w v : World) : Type 0 where
   pub barred : (a b : ℕ) → v.barred a b ≡ w.barred a b
   pub queue : v.queue ≡ w.queue
 
+-- a page is forgotten: it is cached as a read gives it
+abbrev pub forgotten : ℕ → World → World
+forgotten page w = record w { cached = λ a. cond (eqb a page) (w.newest page) (w.cached a) }
+
 -- The same as functions of the state: a barrier that is done,
 abbrev pub barrier_made : World → World
 barrier_made w = record w { older = λ page. w.newest page ∷ []; hung = λ a. false; barred = λ a b. false; queue = map fixed_release w.queue }

@@ -22,6 +22,10 @@ IsPrint lay page = (p : ℕ) × IsData lay p × (page ≡ lay.print_page p)
 abbrev pub IsDataPage : Layout → ℕ → Type 0
 IsDataPage lay page = (p : ℕ) × IsData lay p × (page ≡ lay.data_page p)
 
+-- the first page, one of a table or a data page, as every page of a device is
+abbrev pub IsPage : Layout → ℕ → Type 0
+IsPage lay page = (page ≡ 0) ⊎ (IsTable lay page ⊎ IsDataPage lay page)
+
 -- an edge leads from a data or count page to a map or print page, or from one of these to a count page
 abbrev pub EdgeKind : Layout → ℕ → ℕ → Type 0
 EdgeKind lay a b = ((IsDataPage lay a ⊎ IsCount lay a) × (IsMap lay b ⊎ IsPrint lay b)) ⊎ ((IsMap lay a ⊎ IsPrint lay a) × IsCount lay b)

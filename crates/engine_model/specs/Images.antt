@@ -50,8 +50,9 @@ pub record CountsExact (lay : Layout) (image : ℕ → List ℕ) : Type 0 where
   pub unnamed : (p : ℕ) → IsData lay p → lay.count_in (image (lay.count_page p)) p ≡ 0
       → lay.print_in (image (lay.print_page p)) p ≡ None
 
--- exact, and no two named pages have the same content
-pub record ImageTight (lay : Layout) (image : ℕ → List ℕ) : Type 0 where
+-- exact, no two named pages have the same content, and in version 2 none has a block of zeros
+pub record ImageTight (lay : Layout) (version : ℕ) (image : ℕ → List ℕ) : Type 0 where
   pub exact : CountsExact lay image
   pub distinct : (p q : ℕ) → IsData lay p → IsData lay q → p ≢ q → 0 < lay.count_in (image (lay.count_page p)) p
       → 0 < lay.count_in (image (lay.count_page q)) q → image (lay.data_page p) ≢ image (lay.data_page q)
+  pub no_zeros : version ≡ 2 → (p : ℕ) → IsData lay p → 0 < lay.count_in (image (lay.count_page p)) p → image (lay.data_page p) ≢ lay.zero_block

@@ -9,6 +9,7 @@ pub mod any_device;
 pub mod barriers;
 pub mod births_known;
 pub mod bridges;
+pub mod clean_pages;
 pub mod commands;
 pub mod crash_images;
 pub mod editing;

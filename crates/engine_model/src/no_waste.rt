@@ -1,5 +1,5 @@
 //! Where nothing is wasted each step keeps it so, as long as a fresh page is chosen only where no candidate is
-//! usable.
+//! usable, and in version 2 only where the content is no block of zeros.
 
 ghost use Rattle.std.specs.Prelude.{◌≡◌, [], ℕ, List, true};
 ghost use Rattle.engine_model.specs.DeviceSteps.{AtRest};
@@ -12,9 +12,12 @@ ghost use Rattle.order_model.specs.World.{Layout, World};
 
 /// From a tight image to a tight image.
 pub fn nothing_is_wasted()
-    ensures start { (lay : Layout) (w : World) → AtRest w → ImageTight lay w.newest → IsTight lay w }
-    ensures kept { (lay : Layout) (top : ℕ) → Apart lay → (m n : Moment) → EngineInvariant lay top true m
-        → IsTight lay m.world → HasRoom lay top m.world → (s : Step lay top m n) → ChoosesWell s → IsTight lay n.world }
-    ensures ends { (lay : Layout) (top : ℕ) (m : Moment) → EngineInvariant lay top true m → IsTight lay m.world
-        → NoNode m → m.world.queue ≡ [] → (image : ℕ → List ℕ) → CrashImage m.world image → ImageTight lay image }
+    ensures start { (lay : Layout) (version : ℕ) (w : World) → AtRest w → ImageTight lay version w.newest
+        → IsTight lay version w }
+    ensures kept { (lay : Layout) (top version : ℕ) → Apart lay → (m n : Moment) → EngineInvariant lay top true m
+        → IsTight lay version m.world → HasRoom lay top m.world → (s : Step lay top m n) → ChoosesWell version s
+        → IsTight lay version n.world }
+    ensures ends { (lay : Layout) (top version : ℕ) (m : Moment) → EngineInvariant lay top true m
+        → IsTight lay version m.world → NoNode m → m.world.queue ≡ [] → (image : ℕ → List ℕ)
+        → CrashImage m.world image → ImageTight lay version image }
 {}
