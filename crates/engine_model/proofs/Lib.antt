@@ -67,3 +67,6 @@ pub mod PassExamples
 pub mod PassRoom
 pub mod FreedPage
 pub mod CleanPages
+pub mod Puts
+pub mod Frames
+pub mod SmallDiscard

@@ -16,6 +16,8 @@ pub mod Corrections
 pub mod Images
 pub mod Schedule
 pub mod SmallRuns
+pub mod Frames
+pub mod SmallCommands
 pub mod Pass
 pub mod SmallPass
 pub mod LookingAgain

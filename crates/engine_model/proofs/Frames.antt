@@ -1,0 +1,372 @@
+-- Frames: nothing, one after another, and that of each small step.
+use Rattle.std.proofs.Common.{◌≡◌, ◌≢◌, inl, inr, ◌<◌, ℕ, Bool, true, false, cond, refl, sym, ap, ◌∙◌, subst, List, [], ◌∷◌, ◌++◌, true≢false, eqb-true, eq-eqb, Option, Some, None}
+use Rattle.std.proofs.lemmas.Bool.{cases_Bool, false_from_ne_true, or_left, or_parts}
+use Rattle.order_model.specs.World.{IsData, Layout, Release, World}
+use Rattle.order_model.specs.Contents.{IsAmong}
+use Rattle.order_model.specs.Pool.{Told}
+use Rattle.order_model.specs.Calls.{Call, Change}
+use Rattle.order_model.specs.declared.Slot.TheVariants.{Name, Print}
+use Rattle.order_model.specs.declared.Slot.{Slot}
+use Rattle.engine_model.specs.Births.{AllDirty, Edit, IsSlot, Leads, cached_value, has_print, told}
+use Rattle.engine_model.specs.Edits.{CacheOnly}
+use Rattle.engine_model.specs.Entries.{Apart, cached_name, cached_print}
+use Rattle.engine_model.specs.Frames.{EntriesKept, Frame, Grows, IsEdgeOf, MarksGrow, Off, Reach, both, content_reach, count_reach, edge_reach, mark_reach, name_reach, no_reach, print_reach, reach_of}
+use Rattle.engine_model.specs.Invariant.{Moment, ToldBirths, known_at}
+use Rattle.engine_model.specs.SmallRuns.{ClearPrint, GiveUp, Lower, Order, OrderByBarrier, Place, Raise, Recount, SetName, SetPrint, SmallStep, Touch, in_state, with_name, with_print, with_release_out}
+use Rattle.engine_model.specs.SmallSteps.{CanName, SetsCount, SetsPrint, lowered, ordered, ordered_after, ordered_by_barrier, placed, pushed, put, touched}
+use Rattle.engine_model.proofs.Puts.{puts_content, puts_count, puts_name, puts_print}
+use Rattle.engine_model.proofs.Quiet.{put_here, put_other, some_barred, some_edge, touched_here, touched_other}
+use Rattle.engine_model.proofs.Whole.{nothing_told}
+
+-- lists
+pub off_parts : (a : ℕ) (xs ys : List ℕ) → Off a (xs ++ ys) → Off a xs × Off a ys
+off_parts a [] ys o = (tt, o)
+off_parts a (x ∷ xs) ys o = let more = off_parts a xs ys o.1 in ((o.0, more.0), more.1)
+
+edge_left : (a b : ℕ) (xs ys : List (ℕ × ℕ)) → IsEdgeOf a b xs → IsEdgeOf a b (xs ++ ys)
+edge_left a b [] ys e = absurd e
+edge_left a b (x ∷ xs) ys (inl e) = inl e
+edge_left a b (x ∷ xs) ys (inr e) = inr (edge_left a b xs ys e)
+
+edge_right : (a b : ℕ) (xs ys : List (ℕ × ℕ)) → IsEdgeOf a b ys → IsEdgeOf a b (xs ++ ys)
+edge_right a b [] ys e = e
+edge_right a b (x ∷ xs) ys e = inr (edge_right a b xs ys e)
+
+-- what birth_marks is told, one after another
+told_append : (es more : List Edit) (calls : List Call) → told (more ++ es) calls ≡ told more (told es calls)
+told_append es [] calls = refl
+told_append es (e ∷ more) calls = ap (λ cs. Change e.slot e.at e.from e.to ∷ cs) (told_append es more calls)
+
+dirty_append : (w v : World) (es more : List Edit) → ((a : ℕ) → w.dirty a ≡ true → v.dirty a ≡ true) → AllDirty w es → AllDirty v more → AllDirty v (more ++ es)
+dirty_append w v [] [] kept a b = tt
+dirty_append w v (e ∷ es) [] kept a b = (kept _ a.0, dirty_append w v es [] kept a.1 b)
+dirty_append w v es (e ∷ more) kept a b = (b.0, dirty_append w v es more kept a b.1)
+
+leads_append : (lay : Layout) (slot : Slot) (es more : List Edit) (x y z : ℕ) → Leads lay slot es x y → Leads lay slot more y z → Leads lay slot (more ++ es) x z
+leads_append lay slot es [] x y z first then = subst (λ v. Leads lay slot es x v) then first
+leads_append lay slot es (e ∷ more) x y z first then = (
+  (λ is. let h = then.0 is in (h.0, h.1, leads_append lay slot es more x y e.from first h.2)),
+  (λ off. leads_append lay slot es more x y z first (then.1 off)),
+)
+
+pub births_then : (lay : Layout) (m j n : Moment) → ((a : ℕ) → j.world.dirty a ≡ true → n.world.dirty a ≡ true) → ToldBirths lay m j → ToldBirths lay j n → ToldBirths lay m n
+births_then lay m j n kept x y = record {
+  edits = y.edits ++ x.edits;
+  calls = y.calls ∙ ap (told y.edits) x.calls ∙ sym (told_append x.edits y.edits m.calls);
+  dirty = dirty_append j.world n.world x.edits y.edits kept x.dirty y.dirty;
+  leads = λ slot is. leads_append lay slot x.edits y.edits _ _ _ (x.leads slot is) (y.leads slot is);
+}
+
+-- one name or one print changes
+pub name_told : (lay : Layout) (m n : Moment) (l o p : ℕ) → cached_name lay m.world l ≡ o → cached_name lay n.world l ≡ p → n.calls ≡ Change (Name l) (lay.map_page l) o p ∷ m.calls
+    → n.world.dirty (lay.map_page l) ≡ true → ((j : ℕ) → j < lay.blocks → j ≢ l → cached_name lay n.world j ≡ cached_name lay m.world j)
+    → ((q : ℕ) → IsData lay q → cached_print lay n.world q ≡ cached_print lay m.world q) → ToldBirths lay m n
+name_told lay m n l o p was now calls dirty names prints = record {
+  edits = (record { slot = Name l; at = lay.map_page l; from = o; to = p }) ∷ [];
+  calls = calls;
+  dirty = (dirty, tt);
+  leads = leads;
+}
+  where
+    leads : (slot : Slot) → IsSlot lay slot → Leads lay slot ((record { slot = Name l; at = lay.map_page l; from = o; to = p }) ∷ []) (cached_value lay m.world slot) (cached_value lay n.world slot)
+    leads (Print q) d = ((λ e. absurd (true≢false (sym e))), (λ e. ap has_print (sym (prints q d))))
+    leads (Name j) lt = (
+      (λ h. let e : l ≡ j = eqb-true l j h in (ap lay.map_page e, sym now ∙ ap (cached_name lay n.world) e, ap (cached_name lay m.world) (sym e) ∙ was)),
+      (λ h. sym (names j lt (λ e. true≢false (sym (eq-eqb l j (sym e)) ∙ h)))),
+    )
+
+pub print_told : (lay : Layout) (m n : Moment) (p from to : ℕ) → has_print (cached_print lay m.world p) ≡ from → has_print (cached_print lay n.world p) ≡ to
+    → n.calls ≡ Change (Print p) (lay.print_page p) from to ∷ m.calls → n.world.dirty (lay.print_page p) ≡ true
+    → ((j : ℕ) → j < lay.blocks → cached_name lay n.world j ≡ cached_name lay m.world j)
+    → ((q : ℕ) → IsData lay q → q ≢ p → cached_print lay n.world q ≡ cached_print lay m.world q) → ToldBirths lay m n
+print_told lay m n p from to was now calls dirty names prints = record {
+  edits = (record { slot = Print p; at = lay.print_page p; from = from; to = to }) ∷ [];
+  calls = calls;
+  dirty = (dirty, tt);
+  leads = leads;
+}
+  where
+    leads : (slot : Slot) → IsSlot lay slot → Leads lay slot ((record { slot = Print p; at = lay.print_page p; from = from; to = to }) ∷ []) (cached_value lay m.world slot) (cached_value lay n.world slot)
+    leads (Name j) lt = ((λ e. absurd (true≢false (sym e))), (λ e. sym (names j lt)))
+    leads (Print q) d = (
+      (λ h. let e : p ≡ q = eqb-true p q h in (
+        ap lay.print_page e,
+        sym now ∙ ap (λ y. has_print (cached_print lay n.world y)) e,
+        ap (λ y. has_print (cached_print lay m.world y)) (sym e) ∙ was,
+      )),
+      (λ h. ap has_print (sym (prints q d (λ e. true≢false (sym (eq-eqb p q (sym e)) ∙ h))))),
+    )
+
+-- marks and edges
+pub marks_same : (x : Reach) (w : World) → MarksGrow x w w
+marks_same x w = record {
+  newest = λ a. refl;
+  older = λ a. refl;
+  hung = λ a. refl;
+  dirty_kept = λ a h. h;
+  dirty_new = λ a off. refl;
+  live_kept = λ a b h. h;
+  live_new = λ a b h. inl h;
+  barred_kept = λ a b h. h;
+  barred_new = λ a b h. inl h;
+  clean = λ a off. refl;
+}
+
+marks_then : (x y : Reach) (w u v : World) → MarksGrow x w u → MarksGrow y u v → MarksGrow (both x y) w v
+marks_then x y w u v f g = record {
+  newest = λ a. g.newest a ∙ f.newest a;
+  older = λ a. g.older a ∙ f.older a;
+  hung = λ a. g.hung a ∙ f.hung a;
+  dirty_kept = λ a h. g.dirty_kept a (f.dirty_kept a h);
+  dirty_new = λ a off. let o = off_parts a x.marks y.marks off in g.dirty_new a o.1 ∙ f.dirty_new a o.0;
+  live_kept = λ a b h. g.live_kept a b (f.live_kept a b h);
+  live_new = λ a b h. elim (g.live_new a b h) [
+    | inr new ↦ inr (edge_right a b x.live y.live new.0, new.1, new.2)
+    | inl was ↦ elim (f.live_new a b was) [ inl old ↦ inl old | inr new ↦ inr (edge_left a b x.live y.live new.0, g.dirty_kept a new.1, g.dirty_kept b new.2) ]
+  ];
+  barred_kept = λ a b h. g.barred_kept a b (f.barred_kept a b h);
+  barred_new = λ a b h. elim (g.barred_new a b h) [
+    | inr new ↦ inr (edge_right a b x.barred y.barred new.0, new.1, new.2)
+    | inl was ↦ elim (f.barred_new a b was) [ inl old ↦ inl old | inr new ↦ inr (edge_left a b x.barred y.barred new.0, g.hung a ∙ new.1, g.dirty_kept b new.2) ]
+  ];
+  clean = λ a off. g.clean a off ∙ f.clean a (false_from_ne_true _ (λ h. true≢false (sym (g.dirty_kept a h) ∙ off)));
+}
+
+entries_then : (lay : Layout) (x y : Reach) (old mid new : ℕ → List ℕ) → EntriesKept lay x old mid → EntriesKept lay y mid new → EntriesKept lay (both x y) old new
+entries_then lay x y old mid new f g = record {
+  names = λ l lt off. let o = off_parts l x.names y.names off in g.names l lt o.1 ∙ f.names l lt o.0;
+  counts = λ q d off. let o = off_parts q x.counts y.counts off in g.counts q d o.1 ∙ f.counts q d o.0;
+  prints = λ q d off. let o = off_parts q x.prints y.prints off in g.prints q d o.1 ∙ f.prints q d o.0;
+  contents = λ q d off. let o = off_parts q x.contents y.contents off in g.contents q d o.1 ∙ f.contents q d o.0;
+}
+
+pub entries_same : (lay : Layout) (x : Reach) (old : ℕ → List ℕ) → EntriesKept lay x old old
+entries_same lay x old = record { names = λ l lt off. refl; counts = λ q d off. refl; prints = λ q d off. refl; contents = λ q d off. refl }
+
+pub frame_same : (lay : Layout) (x : Reach) (m : Moment) → Frame lay x m m
+frame_same lay x m = record {
+  marks = marks_same x m.world;
+  entries = entries_same lay x m.world.cached;
+  births = nothing_told lay m m refl (λ l lt. refl) (λ q d. refl);
+  queue = λ h. refl;
+  pool = λ h q. refl;
+  array = λ h l. refl;
+}
+
+pub frame_then : (lay : Layout) (x y : Reach) (m j n : Moment) → Frame lay x m j → Frame lay y j n → Frame lay (both x y) m n
+frame_then lay x y m j n f g = record {
+  marks = marks_then x y m.world j.world n.world f.marks g.marks;
+  entries = entries_then lay x y m.world.cached j.world.cached n.world.cached f.entries g.entries;
+  births = births_then lay m j n g.marks.dirty_kept f.births g.births;
+  queue = λ h. let off = or_parts x.queue y.queue h in g.queue off.1 ∙ f.queue off.0;
+  pool = λ h q. let off = or_parts x.pool y.pool h in g.pool off.1 q ∙ f.pool off.0 q;
+  array = λ h l. let off = or_parts x.array y.array h in g.array off.1 l ∙ f.array off.0 l;
+}
+
+-- what edits leave is what an edit of the cache leaves
+pub frame_rest : (lay : Layout) (x : Reach) (w v : World) → MarksGrow x w v → CacheOnly lay w v
+frame_rest lay x w v f = record {
+  newest = f.newest;
+  possible = λ page c h. elim h [ inl e ↦ inl (e ∙ f.newest page) | inr has ↦ inr (subst (λ ys. IsAmong c ys) (f.older page) has) ];
+  cached_clean = λ page t off. f.clean page off;
+  hung = f.hung;
+  dirty_kept = f.dirty_kept;
+  live_kept = f.live_kept;
+  barred_kept = f.barred_kept;
+  live_ends = λ a b h. elim (f.live_new a b h) [ inl was ↦ inl was | inr new ↦ inr (new.1, new.2) ];
+  barred_ends = λ a b h. elim (f.barred_new a b h) [ inl was ↦ inl was | inr new ↦ inr (new.1, new.2) ];
+}
+
+-- a page becomes dirty, and maybe gets another content
+touched_marks : (x : Reach) (w : World) (page : ℕ) → ((a : ℕ) → Off a x.marks → a ≢ page) → MarksGrow x w (touched page w)
+touched_marks x w page reach = record {
+  newest = λ a. refl;
+  older = λ a. refl;
+  hung = λ a. refl;
+  dirty_kept = λ a h. or_left _ _ h;
+  dirty_new = λ a off. touched_other w page a (reach a off);
+  live_kept = λ a b h. h;
+  live_new = λ a b h. inl h;
+  barred_kept = λ a b h. h;
+  barred_new = λ a b h. inl h;
+  clean = λ a off. refl;
+}
+
+lowered_marks : (x : Reach) (w : World) (page : ℕ) (c : List ℕ) (queue : List Release) → w.dirty page ≡ true → MarksGrow x w (lowered page c queue w)
+lowered_marks x w page c queue dirty = record {
+  newest = λ a. refl;
+  older = λ a. refl;
+  hung = λ a. refl;
+  dirty_kept = λ a h. h;
+  dirty_new = λ a off. refl;
+  live_kept = λ a b h. h;
+  live_new = λ a b h. inl h;
+  barred_kept = λ a b h. h;
+  barred_new = λ a b h. inl h;
+  clean = λ a off. put_other w page c a (λ e. true≢false (sym (ap w.dirty e ∙ dirty) ∙ off));
+}
+
+-- the edges
+module _ (w : World) (before after : ℕ) (dirty : w.dirty after ≡ true) where
+  ordered_marks : w.dirty before ≡ true → MarksGrow (edge_reach before after) w (ordered before after w)
+  ordered_marks first = record {
+    newest = λ a. refl;
+    older = λ a. refl;
+    hung = λ a. refl;
+    dirty_kept = λ a h. h;
+    dirty_new = λ a off. refl;
+    live_kept = λ a b h. or_left _ _ h;
+    live_new = λ a b h. elim (some_edge w before after a b h) [ inl was ↦ inl was | inr new ↦ inr (inl new, ap w.dirty new.0 ∙ first, ap w.dirty new.1 ∙ dirty) ];
+    barred_kept = λ a b h. h;
+    barred_new = λ a b h. inl h;
+    clean = λ a off. refl;
+  }
+
+  barred_marks : w.hung before ≡ true → MarksGrow (edge_reach before after) w (ordered_by_barrier before after w)
+  barred_marks first = record {
+    newest = λ a. refl;
+    older = λ a. refl;
+    hung = λ a. refl;
+    dirty_kept = λ a h. h;
+    dirty_new = λ a off. refl;
+    live_kept = λ a b h. h;
+    live_new = λ a b h. inl h;
+    barred_kept = λ a b h. or_left _ _ h;
+    barred_new = λ a b h. elim (some_barred w before after a b h) [ inl was ↦ inl was | inr new ↦ inr (inl new, ap w.hung new.0 ∙ first, ap w.dirty new.1 ∙ dirty) ];
+    clean = λ a off. refl;
+  }
+
+  pub after_marks : MarksGrow (edge_reach before after) w (ordered_after before after w)
+  after_marks = elim (cases_Bool (w.dirty before)) [
+    | inl is ↦ subst Grown (sym (ap (λ b. cond b (ordered before after w) (cond (w.hung before) (ordered_by_barrier before after w) w)) is)) (ordered_marks is)
+    | inr off ↦ subst Grown (sym (ap (λ b. cond b (ordered before after w) (cond (w.hung before) (ordered_by_barrier before after w) w)) off)) (elim (cases_Bool (w.hung before)) [
+      | inl is ↦ subst Grown (sym (ap (λ b. cond b (ordered_by_barrier before after w) w) is)) (barred_marks is)
+      | inr none ↦ subst Grown (sym (ap (λ b. cond b (ordered_by_barrier before after w) w) none)) (marks_same (edge_reach before after) w)
+    ])
+  ]
+    where
+      Grown : World → Type 0
+      Grown v = MarksGrow (edge_reach before after) w v
+
+-- what no edge changes
+by_marks : (w : World) (before after : ℕ) (A : Type 0) (f : World → A) → f (ordered before after w) ≡ f w → f (ordered_by_barrier before after w) ≡ f w → f (ordered_after before after w) ≡ f w
+by_marks w before after A f x y = elim (cases_Bool (w.dirty before)) [
+  | inl is ↦ ap (λ b. f (cond b (ordered before after w) (cond (w.hung before) (ordered_by_barrier before after w) w))) is ∙ x
+  | inr off ↦ ap (λ b. f (cond b (ordered before after w) (cond (w.hung before) (ordered_by_barrier before after w) w))) off ∙ elim (cases_Bool (w.hung before)) [
+    | inl is ↦ ap (λ b. f (cond b (ordered_by_barrier before after w) w)) is ∙ y
+    | inr none ↦ ap (λ b. f (cond b (ordered_by_barrier before after w) w)) none
+  ]
+]
+
+-- a state in which no name, no print and no call is another
+pub frame_state : (lay : Layout) (x : Reach) (m : Moment) (v : World) → MarksGrow x m.world v → EntriesKept lay x m.world.cached v.cached → x.names ≡ [] → x.prints ≡ [] → v.queue ≡ m.world.queue
+    → Frame lay x m (in_state v m)
+frame_state lay x m v marks entries names prints queue = record {
+  marks = marks;
+  entries = entries;
+  births = nothing_told lay m (in_state v m) refl (λ l lt. entries.names l lt (subst (λ ls. Off l ls) (sym names) tt)) (λ q d. entries.prints q d (subst (λ qs. Off q qs) (sym prints) tt));
+  queue = λ h. queue;
+  pool = λ h q. refl;
+  array = λ h l. refl;
+}
+
+-- a count page gets a content, and maybe releases leave the queue
+counted_frame : (lay : Layout) (apart : Apart lay) (m : Moment) (p count : ℕ) (c : List ℕ) (queue : List Release) (pool : ℕ → Told) (moves : Bool) → (moves ≡ false → queue ≡ m.world.queue)
+    → IsData lay p → SetsCount lay (m.world.cached (lay.count_page p)) c p count → m.world.dirty (lay.count_page p) ≡ true
+    → Frame lay (count_reach p moves) m (with_release_out lay p c queue pool m)
+counted_frame lay apart m p count c queue pool moves same is sets dirty = record {
+  marks = lowered_marks (count_reach p moves) m.world (lay.count_page p) c queue dirty;
+  entries = record { names = kept.names; counts = kept.counts; prints = kept.prints; contents = kept.contents };
+  births = nothing_told lay m (with_release_out lay p c queue pool m) refl (λ l lt. kept.names l lt tt) (λ q d. kept.prints q d tt);
+  queue = same;
+  pool = λ h. absurd (true≢false h);
+  array = λ h l. refl;
+}
+  where
+    kept : EntriesKept lay (record no_reach { counts = p ∷ [] }) m.world.cached (put (lay.count_page p) c m.world).cached
+    kept = puts_count lay apart m.world c p count is sets
+
+-- a print page gets a content
+printed_frame : (lay : Layout) (apart : Apart lay) (m : Moment) (p from to : ℕ) (c : List ℕ) (print : Option (List ℕ)) → IsData lay p → SetsPrint lay (m.world.cached (lay.print_page p)) c p print
+    → m.world.dirty (lay.print_page p) ≡ true → has_print (cached_print lay m.world p) ≡ from → has_print print ≡ to
+    → Frame lay (print_reach p) m (with_print lay p c from to m)
+printed_frame lay apart m p from to c print is sets dirty was now = record {
+  marks = lowered_marks (print_reach p) m.world (lay.print_page p) c m.world.queue dirty;
+  entries = kept;
+  births = print_told lay m (with_print lay p c from to m) p from to was (ap has_print (ap (λ y. lay.print_in y p) (put_here m.world (lay.print_page p) c) ∙ sets.here) ∙ now) refl dirty
+      (λ l lt. kept.names l lt tt) (λ q d ne. kept.prints q d (ne, tt));
+  queue = λ h. refl;
+  pool = λ h q. refl;
+  array = λ h l. refl;
+}
+  where
+    kept : EntriesKept lay (print_reach p) m.world.cached (put (lay.print_page p) c m.world).cached
+    kept = puts_print lay apart m.world c p print is sets
+
+-- a map page gets a content, and a release is pushed
+named_frame : (lay : Layout) (apart : Apart lay) (m : Moment) (l o p : ℕ) (c : List ℕ) (array : ℕ → List (List ℕ)) → CanName lay m.world l o p c
+    → Frame lay (name_reach l) m (with_name lay l o p c array m)
+named_frame lay apart m l o p c array can = record {
+  marks = lowered_marks (name_reach l) m.world (lay.map_page l) c (pushed (known_at lay m) l o m.world.queue) can.dirty;
+  entries = record { names = kept.names; counts = kept.counts; prints = kept.prints; contents = kept.contents };
+  births = name_told lay m (with_name lay l o p c array m) l o p can.was (ap (λ y. lay.name_in y l) (put_here m.world (lay.map_page l) c) ∙ can.sets.here) refl can.dirty
+      (λ j lt ne. kept.names j lt (ne, tt)) (λ q d. kept.prints q d tt);
+  queue = λ h. absurd (true≢false h);
+  pool = λ h q. refl;
+  array = λ h. absurd (true≢false h);
+}
+  where
+    kept : EntriesKept lay (record no_reach { names = l ∷ [] }) m.world.cached (put (lay.map_page l) c m.world).cached
+    kept = puts_name lay apart m.world c l p can.in_range can.sets
+
+module _ (lay : Layout) (apart : Apart lay) (m : Moment) where
+  touched_frame : (page : ℕ) → Frame lay (mark_reach page) m (in_state (touched page m.world) m)
+  touched_frame page = frame_state lay (mark_reach page) m (touched page m.world)
+      (touched_marks (mark_reach page) m.world page (λ a off. off.0)) (entries_same lay (mark_reach page) m.world.cached) refl refl refl
+
+  placed_frame : (p : ℕ) (c : List ℕ) → IsData lay p → Frame lay (content_reach lay p) m (in_state (placed (lay.data_page p) c m.world) m)
+  placed_frame p c d = frame_state lay (content_reach lay p) m (placed (lay.data_page p) c m.world) (record {
+    newest = λ a. refl;
+    older = λ a. refl;
+    hung = λ a. refl;
+    dirty_kept = λ a h. or_left _ _ h;
+    dirty_new = λ a off. touched_other m.world (lay.data_page p) a off.0;
+    live_kept = λ a b h. h;
+    live_new = λ a b h. inl h;
+    barred_kept = λ a b h. h;
+    barred_new = λ a b h. inl h;
+    clean = λ a off. put_other (touched (lay.data_page p) m.world) (lay.data_page p) c a
+        (λ h. true≢false (sym (ap (touched (lay.data_page p) m.world).dirty h ∙ touched_here m.world (lay.data_page p)) ∙ off));
+  }) (record { names = kept.names; counts = kept.counts; prints = kept.prints; contents = kept.contents }) refl refl refl
+    where
+      kept : EntriesKept lay (record no_reach { contents = p ∷ [] }) m.world.cached (placed (lay.data_page p) c m.world).cached
+      kept = puts_content lay apart (touched (lay.data_page p) m.world) c p d
+
+  edge_frame : (before after : ℕ) (v : World) → MarksGrow (edge_reach before after) m.world v → v.cached ≡ m.world.cached → v.queue ≡ m.world.queue → Frame lay (edge_reach before after) m (in_state v m)
+  edge_frame before after v marks cached queue = frame_state lay (edge_reach before after) m v marks
+      (subst (λ c. EntriesKept lay (edge_reach before after) m.world.cached c) (sym cached) (entries_same lay (edge_reach before after) m.world.cached)) refl refl queue
+
+  pub step_frame : (top : ℕ) (n : Moment) (s : SmallStep lay top m n) → Grows s → Frame lay (reach_of s) m n
+  step_frame top n (Touch page t e) g = subst (λ z. Frame lay (mark_reach page) m z) (sym e) (touched_frame page)
+  step_frame top n (Place p c d f e) g = subst (λ z. Frame lay (content_reach lay p) m z) (sym e) (placed_frame p c d)
+  step_frame top n (Order before after i y z o e) g = subst (λ w. Frame lay (edge_reach before after) m w) (sym e)
+      (edge_frame before after (ordered before after m.world) (ordered_marks m.world before after z y) refl refl)
+  step_frame top n (OrderByBarrier before after i y z e) g = subst (λ w. Frame lay (edge_reach before after) m w) (sym e)
+      (edge_frame before after (ordered_by_barrier before after m.world) (barred_marks m.world before after z y) refl refl)
+  step_frame top n (Raise p c pool can e t) g = subst (λ w. Frame lay (count_reach p false) m w) (sym e)
+      (counted_frame lay apart m p _ c m.world.queue pool false (λ h. refl) can.is_data can.sets can.dirty)
+  step_frame top n (SetPrint p c print can e) g = subst (λ w. Frame lay (print_reach p) m w) (sym e)
+      (printed_frame lay apart m p 0 1 c (Some print) can.is_data can.sets can.dirty (ap has_print can.had_none) refl)
+  step_frame top n (SetName l o p c array can gain e) g = subst (λ w. Frame lay (name_reach l) m w) (sym e) (named_frame lay apart m l o p c array can)
+  step_frame top n (ClearPrint p c print can e) g = subst (λ w. Frame lay (print_reach p) m w) (sym e)
+      (printed_frame lay apart m p 1 0 c None can.is_data can.sets can.dirty (ap has_print can.had) refl)
+  step_frame top n (Lower r before after c count pool can e t) g = subst (λ w. Frame lay (count_reach r.page true) m w) (sym e)
+      (counted_frame lay apart m r.page count c (before ++ after) pool true (λ h. absurd (true≢false h)) g can.sets can.dirty)
+  step_frame top n (Recount p c count pool can e t) g = subst (λ w. Frame lay (count_reach p false) m w) (sym e)
+      (counted_frame lay apart m p count c m.world.queue pool false (λ h. refl) can.is_data can.sets can.dirty)
+  step_frame top n (GiveUp p d z e) g = absurd g
+
+  -- one page before another, as the marks ask
+  pub frame_after : (before after : ℕ) → m.world.dirty after ≡ true → Frame lay (edge_reach before after) m (in_state (ordered_after before after m.world) m)
+  frame_after before after dirty = edge_frame before after (ordered_after before after m.world) (after_marks m.world before after dirty)
+      (by_marks m.world before after (ℕ → List ℕ) (λ w. w.cached) refl refl) (by_marks m.world before after (List Release) (λ w. w.queue) refl refl)
