@@ -1,13 +1,15 @@
 -- The small steps of an applied release are the big one.
 use Rattle.std.proofs.Common.{◌≡◌, ◌≢◌, ◌⊎◌, inl, inr, ◌+◌, ◌<◌, ℕ, Bool, true, false, ◌&&◌, arith, refl, sym, ap, ◌∙◌, subst, List, [], ◌∷◌, ◌++◌, Some, None, true≢false, eqb, eq-eqb, eqb-true}
 use Rattle.std.proofs.lemmas.Bool.{cases_eq, or_left, or_right, and_from}
-use Rattle.order_model.specs.World.{Agree, Layout, Possible, Release, World, IsData}
+use Rattle.order_model.specs.World.{Agree, IsData, Layout, Queued, Release, World}
 use Rattle.order_model.specs.Contents.{IsAmong}
 use Rattle.order_model.specs.Calls.{Change}
 use Rattle.engine_model.specs.Births.{Edit, IsSlot, Leads, cached_value, has_print}
 use Rattle.order_model.specs.declared.Slot.TheVariants.{Name, Print}
 use Rattle.order_model.specs.declared.Slot.{Slot}
 use Rattle.engine_model.specs.Commands.{DataKept}
+use Rattle.engine_model.specs.DeviceSteps.{Same}
+use Rattle.engine_model.specs.Drops.{Dropped}
 use Rattle.engine_model.specs.Edits.{CacheOnly}
 use Rattle.engine_model.specs.Entries.{Apart, IsTable, cached_count, cached_name, cached_print}
 use Rattle.engine_model.specs.Invariant.{EngineInvariant, Moment, ToldBirths, ToldZero, known_at}
@@ -21,6 +23,7 @@ use Rattle.engine_model.proofs.Views.{none_some}
 use Rattle.engine_model.proofs.GivenUp.{given_up_is}
 use Rattle.engine_model.proofs.Passes.{append_one, drained_twice}
 use Rattle.engine_model.proofs.Queues.{middle}
+use Rattle.engine_model.proofs.Same.{same_self}
 use Rattle.engine_model.proofs.Quiet.{count_table, print_table, put_here, put_other, some_barred, some_edge, touched_here, touched_other}
 use Rattle.engine_model.specs.SmallPass.{Applies, Clears, ClearsLast, ClearsUnborn, GivenUp, GivesUp, NothingToClear, SmallPass, StaysThere, map_edge, readied}
 use Rattle.engine_model.proofs.AppliedFrames.{clears_barred, clears_cached, clears_dirty, clears_live, clears_none, clears_print, edge_by, edge_cases, ready_cached, ready_live}
@@ -132,7 +135,7 @@ module _ (lay : Layout) (top : ℕ) (sound : Bool) (apart : Apart lay) (m n : Mo
         | inr new ↦ inr (
           (inl (new.0, new.1), new.2),
           ap c.world.dirty new.1 ∙ clears_dirty lay r.page x.count ready c y M (ready_dirty M ∙ or_left _ _
-              (k.counts.lost_name_owes_release.dirty r.block r.page range.0 (subst (λ s. Rattle.order_model.specs.World.Queued m.world.queue r.block r.page s) new.0 (rw queue (middle before after r))))),
+              (k.counts.lost_name_owes_release.dirty r.block r.page range.0 (subst (λ s. Queued m.world.queue r.block r.page s) new.0 (rw queue (middle before after r))))),
         )
       ]
 
@@ -170,7 +173,7 @@ module _ (lay : Layout) (top : ℕ) (sound : Bool) (apart : Apart lay) (m n : Mo
       | inl was ↦ inl was
       | inr new ↦ inr (
         ap out.world.hung new.1 ∙ ap (λ y. y.hung M) rest ∙ k.counts.lost_name_owes_release.hung r.block r.page range.0
-            (subst (λ s. Rattle.order_model.specs.World.Queued m.world.queue r.block r.page s) new.0 (rw queue (middle before after r))),
+            (subst (λ s. Queued m.world.queue r.block r.page s) new.0 (rw queue (middle before after r))),
         ap out.world.dirty new.2 ∙ count_dirty,
       )
     ];
@@ -311,22 +314,13 @@ module _ (lay : Layout) (top : ℕ) (sound : Bool) (apart : Apart lay) (m n : Mo
     where
       from : GivesUp lay r.page x.count out n → Drops lay out n r.page
       from (StaysThere e) = record {
-        world = inl (subst (λ z. Rattle.engine_model.specs.DeviceSteps.Same out.world z.world) (sym e) (record {
-          newest = λ a. refl;
-          older = λ a. refl;
-          cached = λ a. refl;
-          dirty = λ a. refl;
-          hung = λ a. refl;
-          live = λ a b. refl;
-          barred = λ a b. refl;
-          queue = refl;
-        }));
+        world = inl (subst (λ z. Same out.world z.world) (sym e) (same_self out.world));
         array = λ l. ap (λ z. z.array l) e;
         calls = ap (λ z. z.calls) e;
         pool = λ q. ap (λ z. z.pool q) e;
       }
       from (GivenUp z none e) = record {
-        world = inr (subst (λ y. Rattle.engine_model.specs.Drops.Dropped lay out.world y.world r.page) (sym e) (given_up_is lay out.world r.page range.1 (count_out ∙ z)));
+        world = inr (subst (λ y. Dropped lay out.world y.world r.page) (sym e) (given_up_is lay out.world r.page range.1 (count_out ∙ z)));
         array = λ l. ap (λ y. y.array l) e;
         calls = ap (λ y. y.calls) e;
         pool = λ q. ap (λ y. y.pool q) e;

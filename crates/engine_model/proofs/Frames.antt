@@ -1,6 +1,6 @@
 -- Frames: nothing, one after another, and that of each small step.
-use Rattle.std.proofs.Common.{◌≡◌, ◌≢◌, inl, inr, ◌<◌, ℕ, Bool, true, false, cond, refl, sym, ap, ◌∙◌, subst, List, [], ◌∷◌, ◌++◌, true≢false, eqb-true, eq-eqb, Option, Some, None}
-use Rattle.std.proofs.lemmas.Bool.{cases_Bool, false_from_ne_true, or_left, or_parts}
+use Rattle.std.proofs.Common.{◌≡◌, ◌≢◌, inl, inr, ◌<◌, ℕ, Bool, true, false, ◌&&◌, cond, refl, sym, ap, ◌∙◌, subst, List, [], ◌∷◌, ◌++◌, true≢false, eqb, eqb-true, eq-eqb, Option, Some, None}
+use Rattle.std.proofs.lemmas.Bool.{and_from, cases_Bool, false_from_ne_true, or_left, or_parts, or_right}
 use Rattle.order_model.specs.World.{IsData, Layout, Release, World}
 use Rattle.order_model.specs.Contents.{IsAmong}
 use Rattle.order_model.specs.Pool.{Told}
@@ -8,9 +8,9 @@ use Rattle.order_model.specs.Calls.{Call, Change}
 use Rattle.order_model.specs.declared.Slot.TheVariants.{Name, Print}
 use Rattle.order_model.specs.declared.Slot.{Slot}
 use Rattle.engine_model.specs.Births.{AllDirty, Edit, IsSlot, Leads, cached_value, has_print, told}
-use Rattle.engine_model.specs.Edits.{CacheOnly}
+use Rattle.engine_model.specs.Edits.{CacheOnly, Ordered}
 use Rattle.engine_model.specs.Entries.{Apart, cached_name, cached_print}
-use Rattle.engine_model.specs.Frames.{EntriesKept, Frame, Grows, IsEdgeOf, MarksGrow, Off, Reach, both, content_reach, count_reach, edge_reach, mark_reach, name_reach, no_reach, print_reach, reach_of}
+use Rattle.engine_model.specs.Frames.{EntriesKept, Frame, Grows, IsEdgeOf, MarksGrow, Off, Reach, barred_reach, both, content_reach, count_reach, edge_reach, live_reach, mark_reach, name_reach, no_reach, print_reach, reach_of}
 use Rattle.engine_model.specs.Invariant.{Moment, ToldBirths, known_at}
 use Rattle.engine_model.specs.SmallRuns.{ClearPrint, GiveUp, Lower, Order, OrderByBarrier, Place, Raise, Recount, SetName, SetPrint, SmallStep, Touch, in_state, with_name, with_print, with_release_out}
 use Rattle.engine_model.specs.SmallSteps.{CanName, SetsCount, SetsPrint, lowered, ordered, ordered_after, ordered_by_barrier, placed, pushed, put, touched}
@@ -208,22 +208,22 @@ lowered_marks x w page c queue dirty = record {
 
 -- the edges
 module _ (w : World) (before after : ℕ) (dirty : w.dirty after ≡ true) where
-  ordered_marks : w.dirty before ≡ true → MarksGrow (edge_reach before after) w (ordered before after w)
-  ordered_marks first = record {
+  ordered_marks : (x : Reach) → ((a b : ℕ) → (a ≡ before) × (b ≡ after) → IsEdgeOf a b x.live) → w.dirty before ≡ true → MarksGrow x w (ordered before after w)
+  ordered_marks x has first = record {
     newest = λ a. refl;
     older = λ a. refl;
     hung = λ a. refl;
     dirty_kept = λ a h. h;
     dirty_new = λ a off. refl;
     live_kept = λ a b h. or_left _ _ h;
-    live_new = λ a b h. elim (some_edge w before after a b h) [ inl was ↦ inl was | inr new ↦ inr (inl new, ap w.dirty new.0 ∙ first, ap w.dirty new.1 ∙ dirty) ];
+    live_new = λ a b h. elim (some_edge w before after a b h) [ inl was ↦ inl was | inr new ↦ inr (has a b new, ap w.dirty new.0 ∙ first, ap w.dirty new.1 ∙ dirty) ];
     barred_kept = λ a b h. h;
     barred_new = λ a b h. inl h;
     clean = λ a off. refl;
   }
 
-  barred_marks : w.hung before ≡ true → MarksGrow (edge_reach before after) w (ordered_by_barrier before after w)
-  barred_marks first = record {
+  barred_marks : (x : Reach) → ((a b : ℕ) → (a ≡ before) × (b ≡ after) → IsEdgeOf a b x.barred) → w.hung before ≡ true → MarksGrow x w (ordered_by_barrier before after w)
+  barred_marks x has first = record {
     newest = λ a. refl;
     older = λ a. refl;
     hung = λ a. refl;
@@ -232,15 +232,15 @@ module _ (w : World) (before after : ℕ) (dirty : w.dirty after ≡ true) where
     live_kept = λ a b h. h;
     live_new = λ a b h. inl h;
     barred_kept = λ a b h. or_left _ _ h;
-    barred_new = λ a b h. elim (some_barred w before after a b h) [ inl was ↦ inl was | inr new ↦ inr (inl new, ap w.hung new.0 ∙ first, ap w.dirty new.1 ∙ dirty) ];
+    barred_new = λ a b h. elim (some_barred w before after a b h) [ inl was ↦ inl was | inr new ↦ inr (has a b new, ap w.hung new.0 ∙ first, ap w.dirty new.1 ∙ dirty) ];
     clean = λ a off. refl;
   }
 
   pub after_marks : MarksGrow (edge_reach before after) w (ordered_after before after w)
   after_marks = elim (cases_Bool (w.dirty before)) [
-    | inl is ↦ subst Grown (sym (ap (λ b. cond b (ordered before after w) (cond (w.hung before) (ordered_by_barrier before after w) w)) is)) (ordered_marks is)
+    | inl is ↦ subst Grown (sym (ap (λ b. cond b (ordered before after w) (cond (w.hung before) (ordered_by_barrier before after w) w)) is)) (ordered_marks (edge_reach before after) (λ a b new. inl new) is)
     | inr off ↦ subst Grown (sym (ap (λ b. cond b (ordered before after w) (cond (w.hung before) (ordered_by_barrier before after w) w)) off)) (elim (cases_Bool (w.hung before)) [
-      | inl is ↦ subst Grown (sym (ap (λ b. cond b (ordered_by_barrier before after w) w) is)) (barred_marks is)
+      | inl is ↦ subst Grown (sym (ap (λ b. cond b (ordered_by_barrier before after w) w) is)) (barred_marks (edge_reach before after) (λ a b new. inl new) is)
       | inr none ↦ subst Grown (sym (ap (λ b. cond b (ordered_by_barrier before after w) w) none)) (marks_same (edge_reach before after) w)
     ])
   ]
@@ -248,8 +248,33 @@ module _ (w : World) (before after : ℕ) (dirty : w.dirty after ≡ true) where
       Grown : World → Type 0
       Grown v = MarksGrow (edge_reach before after) w v
 
+pub edge_here : (a b : ℕ) → (eqb a a && eqb b b) ≡ true
+edge_here a b = and_from _ _ (eq-eqb a a refl) (eq-eqb b b refl)
+
+-- and then the one page is ordered before the other
+pub after_ordered : (w : World) (before after : ℕ) → Ordered (ordered_after before after w) before after
+after_ordered w before after = elim (cases_Bool (w.dirty before)) [
+  | inl is ↦ subst Goes (sym (ap (λ b. cond b (ordered before after w) (cond (w.hung before) (ordered_by_barrier before after w) w)) is)) (record {
+    dirty = λ h. or_right _ _ (edge_here before after);
+    hung = λ h. inl (or_right _ _ (edge_here before after));
+  })
+  | inr off ↦ subst Goes (sym (ap (λ b. cond b (ordered before after w) (cond (w.hung before) (ordered_by_barrier before after w) w)) off)) (elim (cases_Bool (w.hung before)) [
+    | inl is ↦ subst Goes (sym (ap (λ b. cond b (ordered_by_barrier before after w) w) is)) (record {
+      dirty = λ h. absurd (true≢false (sym h ∙ off));
+      hung = λ h. inr (or_right _ _ (edge_here before after));
+    })
+    | inr none ↦ subst Goes (sym (ap (λ b. cond b (ordered_by_barrier before after w) w) none)) (record {
+      dirty = λ h. absurd (true≢false (sym h ∙ off));
+      hung = λ h. absurd (true≢false (sym h ∙ none));
+    })
+  ])
+]
+  where
+    Goes : World → Type 0
+    Goes v = Ordered v before after
+
 -- what no edge changes
-by_marks : (w : World) (before after : ℕ) (A : Type 0) (f : World → A) → f (ordered before after w) ≡ f w → f (ordered_by_barrier before after w) ≡ f w → f (ordered_after before after w) ≡ f w
+pub by_marks : (w : World) (before after : ℕ) (A : Type 0) (f : World → A) → f (ordered before after w) ≡ f w → f (ordered_by_barrier before after w) ≡ f w → f (ordered_after before after w) ≡ f w
 by_marks w before after A f x y = elim (cases_Bool (w.dirty before)) [
   | inl is ↦ ap (λ b. f (cond b (ordered before after w) (cond (w.hung before) (ordered_by_barrier before after w) w))) is ∙ x
   | inr off ↦ ap (λ b. f (cond b (ordered before after w) (cond (w.hung before) (ordered_by_barrier before after w) w))) off ∙ elim (cases_Bool (w.hung before)) [
@@ -271,7 +296,7 @@ frame_state lay x m v marks entries names prints queue = record {
 }
 
 -- a count page gets a content, and maybe releases leave the queue
-counted_frame : (lay : Layout) (apart : Apart lay) (m : Moment) (p count : ℕ) (c : List ℕ) (queue : List Release) (pool : ℕ → Told) (moves : Bool) → (moves ≡ false → queue ≡ m.world.queue)
+pub counted_frame : (lay : Layout) (apart : Apart lay) (m : Moment) (p count : ℕ) (c : List ℕ) (queue : List Release) (pool : ℕ → Told) (moves : Bool) → (moves ≡ false → queue ≡ m.world.queue)
     → IsData lay p → SetsCount lay (m.world.cached (lay.count_page p)) c p count → m.world.dirty (lay.count_page p) ≡ true
     → Frame lay (count_reach p moves) m (with_release_out lay p c queue pool m)
 counted_frame lay apart m p count c queue pool moves same is sets dirty = record {
@@ -287,7 +312,7 @@ counted_frame lay apart m p count c queue pool moves same is sets dirty = record
     kept = puts_count lay apart m.world c p count is sets
 
 -- a print page gets a content
-printed_frame : (lay : Layout) (apart : Apart lay) (m : Moment) (p from to : ℕ) (c : List ℕ) (print : Option (List ℕ)) → IsData lay p → SetsPrint lay (m.world.cached (lay.print_page p)) c p print
+pub printed_frame : (lay : Layout) (apart : Apart lay) (m : Moment) (p from to : ℕ) (c : List ℕ) (print : Option (List ℕ)) → IsData lay p → SetsPrint lay (m.world.cached (lay.print_page p)) c p print
     → m.world.dirty (lay.print_page p) ≡ true → has_print (cached_print lay m.world p) ≡ from → has_print print ≡ to
     → Frame lay (print_reach p) m (with_print lay p c from to m)
 printed_frame lay apart m p from to c print is sets dirty was now = record {
@@ -304,7 +329,7 @@ printed_frame lay apart m p from to c print is sets dirty was now = record {
     kept = puts_print lay apart m.world c p print is sets
 
 -- a map page gets a content, and a release is pushed
-named_frame : (lay : Layout) (apart : Apart lay) (m : Moment) (l o p : ℕ) (c : List ℕ) (array : ℕ → List (List ℕ)) → CanName lay m.world l o p c
+pub named_frame : (lay : Layout) (apart : Apart lay) (m : Moment) (l o p : ℕ) (c : List ℕ) (array : ℕ → List (List ℕ)) → CanName lay m.world l o p c
     → Frame lay (name_reach l) m (with_name lay l o p c array m)
 named_frame lay apart m l o p c array can = record {
   marks = lowered_marks (name_reach l) m.world (lay.map_page l) c (pushed (known_at lay m) l o m.world.queue) can.dirty;
@@ -320,11 +345,11 @@ named_frame lay apart m l o p c array can = record {
     kept = puts_name lay apart m.world c l p can.in_range can.sets
 
 module _ (lay : Layout) (apart : Apart lay) (m : Moment) where
-  touched_frame : (page : ℕ) → Frame lay (mark_reach page) m (in_state (touched page m.world) m)
+  pub touched_frame : (page : ℕ) → Frame lay (mark_reach page) m (in_state (touched page m.world) m)
   touched_frame page = frame_state lay (mark_reach page) m (touched page m.world)
       (touched_marks (mark_reach page) m.world page (λ a off. off.0)) (entries_same lay (mark_reach page) m.world.cached) refl refl refl
 
-  placed_frame : (p : ℕ) (c : List ℕ) → IsData lay p → Frame lay (content_reach lay p) m (in_state (placed (lay.data_page p) c m.world) m)
+  pub placed_frame : (p : ℕ) (c : List ℕ) → IsData lay p → Frame lay (content_reach lay p) m (in_state (placed (lay.data_page p) c m.world) m)
   placed_frame p c d = frame_state lay (content_reach lay p) m (placed (lay.data_page p) c m.world) (record {
     newest = λ a. refl;
     older = λ a. refl;
@@ -342,17 +367,20 @@ module _ (lay : Layout) (apart : Apart lay) (m : Moment) where
       kept : EntriesKept lay (record no_reach { contents = p ∷ [] }) m.world.cached (placed (lay.data_page p) c m.world).cached
       kept = puts_content lay apart (touched (lay.data_page p) m.world) c p d
 
-  edge_frame : (before after : ℕ) (v : World) → MarksGrow (edge_reach before after) m.world v → v.cached ≡ m.world.cached → v.queue ≡ m.world.queue → Frame lay (edge_reach before after) m (in_state v m)
-  edge_frame before after v marks cached queue = frame_state lay (edge_reach before after) m v marks
-      (subst (λ c. EntriesKept lay (edge_reach before after) m.world.cached c) (sym cached) (entries_same lay (edge_reach before after) m.world.cached)) refl refl queue
+  edge_frame : (x : Reach) (v : World) → MarksGrow x m.world v → v.cached ≡ m.world.cached → x.names ≡ [] → x.prints ≡ [] → v.queue ≡ m.world.queue → Frame lay x m (in_state v m)
+  edge_frame x v marks cached names prints queue = frame_state lay x m v marks (subst (λ c. EntriesKept lay x m.world.cached c) (sym cached) (entries_same lay x m.world.cached)) names prints queue
+
+  pub ordered_frame : (before after : ℕ) → m.world.dirty before ≡ true → m.world.dirty after ≡ true → Frame lay (live_reach before after) m (in_state (ordered before after m.world) m)
+  ordered_frame before after first dirty = edge_frame (live_reach before after) (ordered before after m.world)
+      (ordered_marks m.world before after dirty (live_reach before after) (λ a b new. inl new) first) refl refl refl refl
 
   pub step_frame : (top : ℕ) (n : Moment) (s : SmallStep lay top m n) → Grows s → Frame lay (reach_of s) m n
   step_frame top n (Touch page t e) g = subst (λ z. Frame lay (mark_reach page) m z) (sym e) (touched_frame page)
   step_frame top n (Place p c d f e) g = subst (λ z. Frame lay (content_reach lay p) m z) (sym e) (placed_frame p c d)
-  step_frame top n (Order before after i y z o e) g = subst (λ w. Frame lay (edge_reach before after) m w) (sym e)
-      (edge_frame before after (ordered before after m.world) (ordered_marks m.world before after z y) refl refl)
-  step_frame top n (OrderByBarrier before after i y z e) g = subst (λ w. Frame lay (edge_reach before after) m w) (sym e)
-      (edge_frame before after (ordered_by_barrier before after m.world) (barred_marks m.world before after z y) refl refl)
+  step_frame top n (Order before after i y z o e) g = subst (λ w. Frame lay (live_reach before after) m w) (sym e)
+      (ordered_frame before after y z)
+  step_frame top n (OrderByBarrier before after i y z e) g = subst (λ w. Frame lay (barred_reach before after) m w) (sym e)
+      (edge_frame (barred_reach before after) (ordered_by_barrier before after m.world) (barred_marks m.world before after z (barred_reach before after) (λ a b new. inl new) y) refl refl refl refl)
   step_frame top n (Raise p c pool can e t) g = subst (λ w. Frame lay (count_reach p false) m w) (sym e)
       (counted_frame lay apart m p _ c m.world.queue pool false (λ h. refl) can.is_data can.sets can.dirty)
   step_frame top n (SetPrint p c print can e) g = subst (λ w. Frame lay (print_reach p) m w) (sym e)
@@ -368,5 +396,5 @@ module _ (lay : Layout) (apart : Apart lay) (m : Moment) where
 
   -- one page before another, as the marks ask
   pub frame_after : (before after : ℕ) → m.world.dirty after ≡ true → Frame lay (edge_reach before after) m (in_state (ordered_after before after m.world) m)
-  frame_after before after dirty = edge_frame before after (ordered_after before after m.world) (after_marks m.world before after dirty)
-      (by_marks m.world before after (ℕ → List ℕ) (λ w. w.cached) refl refl) (by_marks m.world before after (List Release) (λ w. w.queue) refl refl)
+  frame_after before after dirty = edge_frame (edge_reach before after) (ordered_after before after m.world) (after_marks m.world before after dirty)
+      (by_marks m.world before after (ℕ → List ℕ) (λ w. w.cached) refl refl) refl refl (by_marks m.world before after (List Release) (λ w. w.queue) refl refl)

@@ -69,4 +69,8 @@ pub mod FreedPage
 pub mod CleanPages
 pub mod Puts
 pub mod Frames
+pub mod PageNamed
 pub mod SmallDiscard
+pub mod PageFilled
+pub mod FreshWrite
+pub mod FoundWrite

@@ -72,7 +72,7 @@ module _ (lay : Layout) (top : ℕ) (sound : Bool) (apart : Apart lay) where
     print_open : x.count ≡ 0 → (print : List ℕ) → cached_print lay ready.world r.page ≡ Some print → (known_at lay m).unborn_print r.page ≡ false → Closes ready.world.live F K → ⊥
     print_open z print some born =
         let was : Closes m.world.live F K → ⊥ = λ c. x.not_blocked (inr (((let one = x.counted in omega arith), (print, sym ready_print ∙ some), born), c)) in
-        edge_by (λ w. Closes w.live F K → ⊥) r.stage M K begun (still_open m.world.live (ordered M K begun).live M K (some_edge m.world M K) F was) was was
+        edge_by (λ w. Closes w.live F K → ⊥) r.stage M K begun (still_open m.world.live (ordered M K begun).live K (λ a b h. elim (some_edge m.world M K a b h) [ inl old ↦ inl old | inr new ↦ inr new.1 ]) F was) was was
 
     cleared_kept : (c : Moment) → Clears lay r.page x.count ready c → Kept c
     cleared_kept c (NothingToClear h e) = subst Kept (sym e) ready_keeps

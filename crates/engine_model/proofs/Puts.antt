@@ -1,9 +1,9 @@
 -- A page that is cached with another content changes one entry.
-use Rattle.std.proofs.Common.{◌≡◌, ◌≢◌, inl, inr, ◌<◌, ℕ, sym, ap, ◌∙◌, List, [], ◌∷◌, Option}
+use Rattle.std.proofs.Common.{◌≡◌, ◌≢◌, inl, inr, ◌<◌, ℕ, sym, ap, ◌∙◌, subst, List, [], ◌∷◌, Option}
 use Rattle.std.proofs.lemmas.Bool.{cases_eq}
 use Rattle.order_model.specs.World.{IsData, Layout, World}
 use Rattle.engine_model.specs.Entries.{Apart, IsTable}
-use Rattle.engine_model.specs.Frames.{EntriesKept, no_reach}
+use Rattle.engine_model.specs.Frames.{EntriesKept, Off, Reach, no_reach}
 use Rattle.engine_model.specs.SmallSteps.{SetsCount, SetsName, SetsPrint, put}
 use Rattle.engine_model.proofs.Quiet.{count_table, map_table, print_table, put_here, put_other}
 
@@ -61,3 +61,31 @@ module _ (lay : Layout) (apart : Apart lay) (w : World) (c : List ℕ) where
     prints = λ q d off. ap (λ y. lay.print_in y q) (away (lay.data_page p) (lay.print_page q) (apart.table_data (lay.print_page q) p (print_table lay q d) is));
     contents = λ q d off. away (lay.data_page p) (lay.data_page q) (apart.data_data q p d is off.0);
   }
+
+-- a content that changes one entry does so over what edits of other entries left
+pub sets_name_on : (lay : Layout) (x : Reach) (old new : ℕ → List ℕ) → EntriesKept lay x old new → x.names ≡ [] → (c : List ℕ) (l p : ℕ) → SetsName lay (old (lay.map_page l)) c l p
+    → SetsName lay (new (lay.map_page l)) c l p
+sets_name_on lay x old new f none c l p s = record {
+  here = s.here;
+  other = λ j lt ne same. s.other j lt ne same
+      ∙ sym (ap (λ a. lay.name_in (new a) j) (sym same) ∙ f.names j lt (subst (λ ls. Off j ls) (sym none) tt) ∙ ap (λ a. lay.name_in (old a) j) same);
+  formed = s.formed;
+}
+
+pub sets_count_on : (lay : Layout) (x : Reach) (old new : ℕ → List ℕ) → EntriesKept lay x old new → x.counts ≡ [] → (c : List ℕ) (p n : ℕ) → SetsCount lay (old (lay.count_page p)) c p n
+    → SetsCount lay (new (lay.count_page p)) c p n
+sets_count_on lay x old new f none c p n s = record {
+  here = s.here;
+  other = λ q d ne same. s.other q d ne same
+      ∙ sym (ap (λ a. lay.count_in (new a) q) (sym same) ∙ f.counts q d (subst (λ qs. Off q qs) (sym none) tt) ∙ ap (λ a. lay.count_in (old a) q) same);
+  formed = s.formed;
+}
+
+pub sets_print_on : (lay : Layout) (x : Reach) (old new : ℕ → List ℕ) → EntriesKept lay x old new → x.prints ≡ [] → (c : List ℕ) (p : ℕ) (print : Option (List ℕ))
+    → SetsPrint lay (old (lay.print_page p)) c p print → SetsPrint lay (new (lay.print_page p)) c p print
+sets_print_on lay x old new f none c p print s = record {
+  here = s.here;
+  other = λ q d ne same. s.other q d ne same
+      ∙ sym (ap (λ a. lay.print_in (new a) q) (sym same) ∙ f.prints q d (subst (λ qs. Off q qs) (sym none) tt) ∙ ap (λ a. lay.print_in (old a) q) same);
+  formed = s.formed;
+}

@@ -1,5 +1,5 @@
 -- The small steps of a discard are the whole one.
-use Rattle.std.proofs.Common.{inl, inr, ℕ, Bool, arith, refl, sym, ap, ◌∙◌, List, ne_eqb}
+use Rattle.std.proofs.Common.{inl, inr, ℕ, Bool, arith, refl, sym, ap, ◌∙◌, List}
 use Rattle.order_model.specs.World.{Layout}
 use Rattle.engine_model.specs.Commands.{Gains}
 use Rattle.engine_model.specs.Entries.{Apart}
@@ -9,6 +9,7 @@ use Rattle.engine_model.specs.SmallCommands.{CanDiscard, Discards, with_discard}
 use Rattle.engine_model.specs.SmallRuns.{SetName, SmallStep, Touch, in_state}
 use Rattle.engine_model.specs.SmallSteps.{touched}
 use Rattle.engine_model.proofs.Frames.{frame_rest, frame_then, step_frame}
+use Rattle.engine_model.proofs.PageNamed.{name_released}
 use Rattle.engine_model.proofs.Quiet.{map_table, put_here, touched_here}
 use Rattle.engine_model.proofs.SmallSteps.{small_step_keeps}
 
@@ -48,14 +49,7 @@ module _ (lay : Layout) (top : ℕ) (sound : Bool) (apart : Apart lay) (m : Mome
         live = λ a b h. elim (discard_frame.marks.live_new a b h) [ inl was ↦ inl was | inr new ↦ absurd new.0 ];
         barred = λ a b h. elim (discard_frame.marks.barred_new a b h) [ inl was ↦ inl was | inr new ↦ absurd new.0 ];
       };
-      released = record {
-        in_range = x.in_range;
-        was = x.was;
-        none_or_data = inr x.is_data;
-        other_names = λ j lt ne. discard_frame.entries.names j lt (ne, tt);
-        map_dirty = touched_here m.world (lay.map_page l);
-        pushed = inr (x.is_data.0, rw (ne_eqb o 0 (λ e. omega (arith, e, x.is_data))));
-      };
+      released = name_released lay m done l o x.in_range x.was (inr x.is_data) (λ j lt ne. discard_frame.entries.names j lt (ne, tt)) (touched_here m.world (lay.map_page l)) refl;
       had = x.is_data.0;
       name = ap (λ y. lay.name_in y l) (put_here ready.world (lay.map_page l) c) ∙ x.sets.here;
       counts = λ q d. discard_frame.entries.counts q d tt;

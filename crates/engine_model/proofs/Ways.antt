@@ -10,22 +10,31 @@ pub way_avoids : (live : ℕ → ℕ → Bool) (d : ℕ) → ((x : ℕ) → live
 way_avoids live d none {a = a} ne (leg e) = leg (and_from _ _ e (not_from_false _ (ne_eqb a d ne)))
 way_avoids live d none {a = a} ne (via e p) = via (and_from _ _ e (not_from_false _ (ne_eqb a d ne))) (way_avoids live d none (λ q. true≢false (sym e ∙ ap (live a) q ∙ none a)) p)
 
--- a way along one edge more is an old one, or there is an old one on from the end of that edge
-pub way_loop : (live more : ℕ → ℕ → Bool) (before after : ℕ) → ((a b : ℕ) → more a b ≡ true → (live a b ≡ true) ⊎ ((a ≡ before) × (b ≡ after)))
+-- where each new edge leads into one page: a way is an old one, or there is an old one on from that page
+pub way_into : (live more : ℕ → ℕ → Bool) (after : ℕ) → ((a b : ℕ) → more a b ≡ true → (live a b ≡ true) ⊎ (b ≡ after))
     → {x c : ℕ} → LivePath more x c → LivePath live x c ⊎ ((after ≡ c) ⊎ LivePath live after c)
-way_loop live more before after only (leg e) = elim (only _ _ e) [ inl was ↦ inl (leg was) | inr new ↦ inr (inl (sym new.1)) ]
-way_loop live more before after only {c = c} (via {a = a} {b = b} e p) = elim (way_loop live more before after only p) [
+way_into live more after only (leg e) = elim (only _ _ e) [ inl was ↦ inl (leg was) | inr new ↦ inr (inl (sym new)) ]
+way_into live more after only {c = c} (via {a = a} {b = b} e p) = elim (way_into live more after only p) [
   | inr z ↦ inr z
-  | inl q ↦ elim (only a b e) [ inl was ↦ inl (via was q) | inr new ↦ inr (inr (subst (λ y. LivePath live y c) new.1 q)) ]
+  | inl q ↦ elim (only a b e) [ inl was ↦ inl (via was q) | inr new ↦ inr (inr (subst (λ y. LivePath live y c) new q)) ]
 ]
 
--- an edge that closes nothing leaves what leads to its end open
-pub still_open : (live more : ℕ → ℕ → Bool) (before after : ℕ) → ((a b : ℕ) → more a b ≡ true → (live a b ≡ true) ⊎ ((a ≡ before) × (b ≡ after)))
+-- so what closes nothing into that page does so still
+pub still_open : (live more : ℕ → ℕ → Bool) (after : ℕ) → ((a b : ℕ) → more a b ≡ true → (live a b ≡ true) ⊎ (b ≡ after))
     → (c : ℕ) → (Closes live c after → ⊥) → Closes more c after → ⊥
-still_open live more before after only c shut (inl e) = shut (inl e)
-still_open live more before after only c shut (inr way) = elim (way_loop live more before after only way) [
+still_open live more after only c shut (inl e) = shut (inl e)
+still_open live more after only c shut (inr way) = elim (way_into live more after only way) [
   | inl q ↦ shut (inr q)
   | inr z ↦ elim z [ inl e ↦ shut (inl (sym e)) | inr q ↦ shut (inr q) ]
+]
+
+-- and so does an edge into another page, from a page that may go before that one
+pub open_elsewhere : (live more : ℕ → ℕ → Bool) (after : ℕ) → ((a b : ℕ) → more a b ≡ true → (live a b ≡ true) ⊎ (b ≡ after))
+    → (c d : ℕ) → (Closes live c after → ⊥) → (Closes live c d → ⊥) → Closes more c d → ⊥
+open_elsewhere live more after only c d into shut (inl e) = shut (inl e)
+open_elsewhere live more after only c d into shut (inr way) = elim (way_into live more after only way) [
+  | inl q ↦ shut (inr q)
+  | inr z ↦ elim z [ inl e ↦ into (inl (sym e)) | inr q ↦ into (inr q) ]
 ]
 
 pub member_in : (x r : Release) (xs ys : List Release) → Member x (xs ++ ys) → Member x (xs ++ r ∷ ys)

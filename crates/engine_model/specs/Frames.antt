@@ -85,12 +85,18 @@ pub record Frame (lay : Layout) (x : Reach) (m n : Moment) : Type 0 where
   pub pool : x.pool ≡ false → Agree n.pool m.pool
   pub array : x.array ≡ false → Agree n.array m.array
 
--- how far each kind of edit reaches: a page becomes dirty, a data page gets its content, an edge is added as the marks ask,
+-- how far each kind of edit reaches: a page becomes dirty, a data page gets its content, an edge is added, Live or by a barrier or as the marks ask,
 abbrev pub mark_reach : ℕ → Reach
 mark_reach page = record no_reach { marks = page ∷ [] }
 
 abbrev pub content_reach : Layout → ℕ → Reach
 content_reach lay p = record no_reach { contents = p ∷ []; marks = lay.data_page p ∷ [] }
+
+abbrev pub live_reach : ℕ → ℕ → Reach
+live_reach before after = record no_reach { live = (before, after) ∷ [] }
+
+abbrev pub barred_reach : ℕ → ℕ → Reach
+barred_reach before after = record no_reach { barred = (before, after) ∷ [] }
 
 abbrev pub edge_reach : ℕ → ℕ → Reach
 edge_reach before after = record no_reach { live = (before, after) ∷ []; barred = (before, after) ∷ [] }
@@ -108,8 +114,8 @@ name_reach l = record no_reach { names = l ∷ []; queue = true; array = true }
 abbrev pub reach_of : {lay : Layout} {top : ℕ} {m n : Moment} → SmallStep lay top m n → Reach
 reach_of (Touch page t e) = mark_reach page
 reach_of {lay} (Place p c d f e) = content_reach lay p
-reach_of (Order before after i y z o e) = edge_reach before after
-reach_of (OrderByBarrier before after i y z e) = edge_reach before after
+reach_of (Order before after i y z o e) = live_reach before after
+reach_of (OrderByBarrier before after i y z e) = barred_reach before after
 reach_of (Raise p c pool can e t) = count_reach p false
 reach_of (SetPrint p c print can e) = print_reach p
 reach_of (SetName l o p c a can g e) = name_reach l

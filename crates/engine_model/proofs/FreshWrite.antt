@@ -1,0 +1,132 @@
+-- The small steps of a write to a fresh page are the whole one.
+use Rattle.std.proofs.Common.{◌≡◌, ◌≢◌, inl, inr, ◌+◌, ◌<◌, ℕ, Bool, arith, refl, sym, ap, ◌∙◌, subst, List}
+use Rattle.order_model.specs.World.{IsData, Layout}
+use Rattle.engine_model.specs.Commands.{Gains, Mandatory}
+use Rattle.engine_model.specs.Edits.{Ordered}
+use Rattle.engine_model.specs.Entries.{Apart}
+use Rattle.engine_model.specs.Frames.{Frame, IsEdgeOf, both}
+use Rattle.engine_model.specs.Invariant.{EngineInvariant, Moment, known_at}
+use Rattle.engine_model.specs.Known.{Free}
+use Rattle.engine_model.specs.SmallCommands.{CanNamePage, CanWriteFresh, FillsPage, NamesPage, Writes, fill_reach, page_name_reach, with_fresh_write, with_page_filled}
+use Rattle.engine_model.specs.SmallSteps.{pushed}
+use Rattle.engine_model.proofs.WriteContents.{name_counted}
+use Rattle.engine_model.proofs.Frames.{frame_rest, frame_then}
+use Rattle.engine_model.proofs.PageFilled.{filled_frame, filled_keeps, fills_page}
+use Rattle.engine_model.proofs.PageNamed.{name_released, named_page_keeps, names_page, page_name_frame}
+use Rattle.engine_model.proofs.Puts.{sets_name_on}
+use Rattle.engine_model.proofs.Quiet.{count_table, map_table, print_table}
+use Rattle.engine_model.proofs.Schedule.{tells}
+use Rattle.engine_model.proofs.Ways.{open_elsewhere}
+
+module _ (lay : Layout) (top : ℕ) (sound : Bool) (apart : Apart lay) (m : Moment) (k : EngineInvariant lay top sound m) (l o p : ℕ) (content count print name : List ℕ)
+    (x : CanWriteFresh lay top m l o p content count print name) (array : ℕ → List (List ℕ)) (gain : Gains m.array array l content) where
+  abbrev filled : Moment
+  filled = with_page_filled lay p content count print m
+
+  abbrev done : Moment
+  done = with_fresh_write lay l o p content count print name array m
+
+  fill : Frame lay (fill_reach lay p) m filled
+  fill = filled_frame lay top sound apart m k p content count print x.fills
+
+  fills : FillsPage lay filled p content
+  fills = fills_page lay top sound apart m k p content count print x.fills
+
+  free : Free lay m.world p
+  free = (tells lay top sound m k).free p x.fills.is_data x.fills.free
+
+  into_print : (a b : ℕ) → IsEdgeOf a b (fill_reach lay p).live → b ≡ lay.print_page p
+  into_print a b (inl e) = e.1
+  into_print a b (inr (inl e)) = e.1
+  into_print a b (inr (inr e)) = absurd e
+
+  can : CanNamePage lay filled.world l o p name
+  can = record {
+    in_range = x.in_range;
+    was = fill.entries.names l x.in_range tt ∙ x.was;
+    none_or_data = x.none_or_data;
+    is_data = x.fills.is_data;
+    other = λ e. let pos = name_counted lay top m.world k.counts l p x.in_range x.fills.is_data (x.was ∙ sym e) in let none = free.cached in omega arith;
+    sets = sets_name_on lay (fill_reach lay p) m.world.cached filled.world.cached fill.entries refl name l p x.sets;
+    dirty = fills.count_dirty;
+    spare = fills.spare;
+    opens = open_elsewhere m.world.live filled.world.live (lay.print_page p) (λ a b h. elim (fill.marks.live_new a b h) [ inl was ↦ inl was | inr new ↦ inr (into_print a b new.0) ])
+        (lay.count_page p) (lay.map_page l) x.fills.opens x.opens;
+  }
+
+  named : NamesPage lay filled done l o p
+  named = names_page lay top sound apart filled (filled_keeps lay top sound apart m k p content count print x.fills) l o p name can array
+
+  pub fresh_keeps : EngineInvariant lay top sound done
+  fresh_keeps = named_page_keeps lay top sound apart filled (filled_keeps lay top sound apart m k p content count print x.fills) l o p name can array
+      (inl (subst (λ y. Gains m.array array l y) (sym fills.holds) gain))
+
+  last : Frame lay (page_name_reach lay l p) filled done
+  last = page_name_frame lay top sound apart filled (filled_keeps lay top sound apart m k p content count print x.fills) l o p name can array
+
+  pub fresh_frame : Frame lay (both (fill_reach lay p) (page_name_reach lay l p)) m done
+  fresh_frame = frame_then lay (fill_reach lay p) (page_name_reach lay l p) m filled done fill last
+
+  edges : (a b : ℕ) → IsEdgeOf a b (both (fill_reach lay p) (page_name_reach lay l p)).live → Mandatory lay m.world l p a b
+  edges a b (inl e) = (inr e.0, inr (e.1, x.fills.opens))
+  edges a b (inr (inl e)) = (inl e.0, inr (e.1, x.fills.opens))
+  edges a b (inr (inr (inl e))) = (inr e.0, inl e.1)
+  edges a b (inr (inr (inr (inl e)))) = (inl e.0, inl e.1)
+  edges a b (inr (inr (inr (inr e)))) = absurd e
+
+  barriers : (a b : ℕ) → IsEdgeOf a b (both (fill_reach lay p) (page_name_reach lay l p)).barred → Mandatory lay m.world l p a b
+  barriers a b (inl e) = (inl e.0, inr (e.1, x.fills.opens))
+  barriers a b (inr (inl e)) = (inl e.0, inl e.1)
+  barriers a b (inr (inr e)) = absurd e
+
+  queue : done.world.queue ≡ pushed (known_at lay m) l o m.world.queue
+  queue = named.queue ∙ ap (pushed (known_at lay m) l o) (fill.queue refl)
+
+  off_tables : (q : ℕ) → IsData lay q → (lay.data_page q ≢ lay.count_page p) × (lay.data_page q ≢ lay.print_page p) × (lay.data_page q ≢ lay.map_page l)
+  off_tables q d = (
+    (λ e. apart.table_data (lay.count_page p) q (count_table lay p x.fills.is_data) d (sym e)),
+    (λ e. apart.table_data (lay.print_page p) q (print_table lay p x.fills.is_data) d (sym e)),
+    (λ e. apart.table_data (lay.map_page l) q (map_table lay l x.in_range) d (sym e)),
+  )
+
+  print_first : Ordered done.world (lay.data_page p) (lay.print_page p)
+  print_first = record {
+    dirty = λ h. last.marks.live_kept _ _ (fills.data_first.dirty fills.data_dirty);
+    hung = λ h. inl (last.marks.live_kept _ _ (fills.data_first.dirty fills.data_dirty));
+  }
+
+  pub fresh_writes : Writes lay top m done l o p content
+  fresh_writes = record {
+    renamed = record {
+      rest = frame_rest lay (both (fill_reach lay p) (page_name_reach lay l p)) m.world done.world fresh_frame.marks;
+      edges = record {
+        live = λ a b h. elim (fresh_frame.marks.live_new a b h) [ inl was ↦ inl was | inr new ↦ inr (edges a b new.0) ];
+        barred = λ a b h. elim (fresh_frame.marks.barred_new a b h) [ inl was ↦ inl was | inr new ↦ inr (barriers a b new.0) ];
+      };
+      no_cycle = x.opens;
+      released = name_released lay m done l o x.in_range x.was x.none_or_data (λ j lt ne. fresh_frame.entries.names j lt (ne, tt)) named.dirty queue;
+      is_data = x.fills.is_data;
+      other = can.other;
+      name = named.name;
+      below_top = subst (λ n. n < top) (sym free.cached) x.fills.below_top;
+      count_here = last.entries.counts p x.fills.is_data tt ∙ fills.counted ∙ ap (λ n. n + 1) (sym free.cached);
+      count_other = λ q d ne. fresh_frame.entries.counts q d (ne, tt);
+      print_other = λ q d ne. fresh_frame.entries.prints q d (ne, tt);
+      print_here = inr (lay.finger content, record { was_free = x.fills.free; first_count = last.marks.live_kept _ _ fills.count_first });
+      counted = named.count_first;
+    };
+    page = record {
+      data_other = λ q d ne. let off = off_tables q d in (
+        fresh_frame.entries.contents q d (ne, tt),
+        fresh_frame.marks.dirty_new (lay.data_page q) (apart.data_data q p d x.fills.is_data ne, (off.0, (off.1, (off.2, tt)))),
+      );
+      data_here = last.entries.contents p x.fills.is_data tt ∙ fills.holds;
+      chosen = inl (x.fills.free, last.marks.dirty_kept _ fills.data_dirty, last.entries.prints p x.fills.is_data tt ∙ fills.printed, print_first);
+      ordered = named.data_first;
+      well_formed = fresh_keeps.contents.well_formed.cached;
+      first_page = (fresh_keeps.contents.first_page.clean, fresh_frame.marks.clean 0 fresh_keeps.contents.first_page.clean);
+    };
+    gains = gain;
+    births = fresh_frame.births;
+    pool = inl (free.cached, λ q. refl);
+  }

@@ -1,0 +1,5 @@
+use Rattle.engine_model.proofs.small_commands.name_page.Goals as goal
+use Rattle.engine_model.proofs.PageNamed.{named_page_keeps, names_page, page_name_frame}
+
+pub returns : goal.returns
+returns c = record { composed = names_page; frame = page_name_frame; kept = named_page_keeps }
