@@ -74,3 +74,5 @@ pub mod SmallDiscard
 pub mod PageFilled
 pub mod FreshWrite
 pub mod FoundWrite
+pub mod Correction
+pub mod SmallScan

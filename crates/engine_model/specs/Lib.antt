@@ -25,6 +25,7 @@ pub mod AnyDevice
 pub mod PassEffects
 pub mod Room
 pub mod Scan
+pub mod SmallScan
 pub mod Tight
 pub mod VersionSwitch
 pub mod Disk

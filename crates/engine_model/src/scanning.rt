@@ -1,6 +1,6 @@
 //! A scan sets each count to its names. It runs where nothing is queued and no map page is a node.
 
-ghost use Rattle.std.specs.Prelude.{◌<◌, ℕ, List, Bool};
+ghost use Rattle.std.specs.Prelude.{◌≡◌, ◌<◌, [], ℕ, List, Bool};
 ghost use Rattle.engine_model.specs.Commands.{DataKept};
 ghost use Rattle.engine_model.specs.Contents.{ContentsInvariant};
 ghost use Rattle.engine_model.specs.Corrections.{Corrected};
@@ -9,8 +9,10 @@ ghost use Rattle.order_model.specs.World.{IsData, Agree, Layout, Possible, World
 ghost use Rattle.engine_model.specs.Entries.{Apart};
 ghost use Rattle.engine_model.specs.Images.{CountsExact, CrashImage};
 ghost use Rattle.engine_model.specs.Invariant.{EngineInvariant, Moment};
-ghost use Rattle.engine_model.specs.Scan.{CorrectsNothing, SameWaste, Scan, TablesSettled};
-ghost use Rattle.engine_model.specs.Schedule.{Step, last_of};
+ghost use Rattle.engine_model.specs.Frames.{Frame, both};
+ghost use Rattle.engine_model.specs.SmallScan.{Fixes, IsDrained, SmallScan, count_fix_reach, print_fix_reach};
+ghost use Rattle.engine_model.specs.Scan.{CorrectsAt, CorrectsNothing, SameWaste, Scan, TablesSettled};
+ghost use Rattle.engine_model.specs.Schedule.{NoNode, Step, last_of};
 
 /// A correction keeps the invariant.
 pub fn corrected()
@@ -35,4 +37,32 @@ pub fn scan_is_exact()
     ensures exact { (lay : Layout) (top : ℕ) (sound : Bool) → Apart lay
         → (m : Moment) (ns : List Moment) (image : ℕ → List ℕ) → EngineInvariant lay top sound m → Scan lay top 1 m ns
         → TablesSettled lay (last_of m ns) → CrashImage (last_of m ns).world image → CountsExact lay image }
+{}
+
+/// A correction by small steps: a print that no name needs goes, ordered before the count page, or a missing one is
+/// made; and then the count is set to the names. It asks for a drained state, and leaves one.
+pub fn a_correction()
+    ensures composed { (lay : Layout) (top : ℕ) (sound : Bool) → Apart lay → (m n : Moment) (p : ℕ)
+        → EngineInvariant lay top sound m → IsDrained lay m.world → Fixes lay m n p → CorrectsAt lay m n p }
+    ensures kept { (lay : Layout) (top : ℕ) (sound : Bool) → Apart lay → (m n : Moment) (p : ℕ)
+        → EngineInvariant lay top sound m → IsDrained lay m.world → Fixes lay m n p
+        → EngineInvariant lay top sound n }
+    ensures frame { (lay : Layout) (top : ℕ) (sound : Bool) → Apart lay → (m n : Moment) (p : ℕ)
+        → EngineInvariant lay top sound m → IsDrained lay m.world → Fixes lay m n p
+        → Frame lay (both (print_fix_reach lay p) (count_fix_reach lay p)) m n }
+    ensures drained { (lay : Layout) (top : ℕ) (sound : Bool) → Apart lay → (m n : Moment) (p : ℕ)
+        → EngineInvariant lay top sound m → IsDrained lay m.world → Fixes lay m n p → IsDrained lay n.world }
+{}
+
+/// A scan by small steps over a drained state is a scan: corrections in rising data page, with steps of the device
+/// between. Once its table pages are settled each count is its names, and exactly the named pages have a print.
+pub fn a_small_scan()
+    ensures starts { (lay : Layout) (top : ℕ) (sound : Bool) (m : Moment) → EngineInvariant lay top sound m
+        → NoNode m → m.world.queue ≡ [] → IsDrained lay m.world }
+    ensures composed { (lay : Layout) (top : ℕ) (sound : Bool) → Apart lay → (m : Moment) (ns : List Moment)
+        → EngineInvariant lay top sound m → IsDrained lay m.world → SmallScan lay top 1 m ns → Scan lay top 1 m ns }
+    ensures exact { (lay : Layout) (top : ℕ) (sound : Bool) → Apart lay
+        → (m : Moment) (ns : List Moment) (image : ℕ → List ℕ) → EngineInvariant lay top sound m
+        → IsDrained lay m.world → SmallScan lay top 1 m ns → TablesSettled lay (last_of m ns)
+        → CrashImage (last_of m ns).world image → CountsExact lay image }
 {}
