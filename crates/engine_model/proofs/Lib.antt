@@ -76,3 +76,4 @@ pub mod FreshWrite
 pub mod FoundWrite
 pub mod Correction
 pub mod SmallScan
+pub mod Drains

@@ -24,6 +24,7 @@ pub mod LookingAgain
 pub mod AnyDevice
 pub mod PassEffects
 pub mod Room
+pub mod Drain
 pub mod Scan
 pub mod SmallScan
 pub mod Tight

@@ -12,6 +12,7 @@ pub mod bridges;
 pub mod clean_pages;
 pub mod commands;
 pub mod crash_images;
+pub mod draining;
 pub mod editing;
 pub mod framing;
 pub mod free_pages;
