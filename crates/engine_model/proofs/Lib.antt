@@ -77,3 +77,5 @@ pub mod FoundWrite
 pub mod Correction
 pub mod SmallScan
 pub mod Drains
+pub mod TightNumbers
+pub mod TightCommands

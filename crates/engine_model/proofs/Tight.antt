@@ -11,7 +11,7 @@ use Rattle.engine_model.specs.Images.{ImageTight, CrashImage}
 use Rattle.engine_model.specs.Schedule.{NoNode, WriteAgain, DiscardAgain, BarrierDone, Correct, Discard, DropData, FlushDone, Fold, FoldZero, Unchanged, ReleaseApplied, Step, Write, WriteDone, WriteRefused, WriteTaken}
 use Rattle.engine_model.specs.Scan.{SameWaste}
 use Rattle.engine_model.proofs.Counting.{count_ext, count_has}
-use Rattle.engine_model.specs.Tight.{ChoosesWell, HasRoom, IsTight, WantsPage}
+use Rattle.engine_model.specs.Tight.{ChoosesWell, IsNew, IsTight}
 use Rattle.engine_model.specs.Invariant.{EngineInvariant, Moment, known_at}
 use Rattle.engine_model.proofs.Dropped as dropped
 use Rattle.engine_model.proofs.Schedule.{tells}
@@ -36,8 +36,9 @@ module _ (lay : Layout) (version : ℕ) (w v : World) (old : IsTight lay version
 
 -- a name that is taken: of a page that was counted, or of a fresh one whose content no counted page has
 module _ (lay : Layout) (top version : ℕ) (m n : Moment) (k : EngineInvariant lay top true m) (old : IsTight lay version m.world) (waste : (p : ℕ) → IsData lay p → SameWaste lay m.world n.world p)
-    (room : HasRoom lay top m.world) (l o p : ℕ) (content : List ℕ) (x : Renamed lay (known_at lay m) top m.world n.world l o p)
-    (c : PageContent lay (known_at lay m) m.world n.world l p content) (well : cached_count lay m.world p ≡ 0 → WantsPage lay top version m.world content) where
+    (l o p : ℕ) (content : List ℕ) (x : Renamed lay (known_at lay m) top m.world n.world l o p)
+    (c : PageContent lay (known_at lay m) m.world n.world l p content) (well : cached_count lay m.world p ≡ 0 → IsNew lay top m.world content)
+    (zeros : cached_count lay m.world p ≡ 0 → version ≡ 2 → content ≢ lay.zero_block) where
   other_page : (q : ℕ) → IsData lay q → q ≢ p → 0 < cached_count lay n.world q
       → (0 < cached_count lay m.world q) × (cached_print lay n.world q ≡ cached_print lay m.world q) × (n.world.cached (lay.data_page q) ≡ m.world.cached (lay.data_page q))
   other_page q d ne pos = (subst (λ z. 0 < z) (x.count_other q d ne) pos, x.print_other q d ne, (c.data_other q d ne).0)
@@ -49,7 +50,7 @@ module _ (lay : Layout) (top version : ℕ) (m n : Moment) (k : EngineInvariant 
       let is = (k.contents.prints_true refl q d).cached print.0 print.1 in
       let full = (well zero).none_usable q d (print.1 ∙ ap Some (is ∙ ap lay.finger same)) same in
       let owes = old.owed q d in
-      let less = room q d in
+      let less = (well zero).room q d in
       omega arith
 
   renamed_tight : IsTight lay version n.world
@@ -81,12 +82,12 @@ module _ (lay : Layout) (top version : ℕ) (m n : Moment) (k : EngineInvariant 
       ];
       no_zeros = λ two q d pos same. elim (cases_eq q p) [
         | inr ne ↦ let was = other_page q d ne pos in old.no_zeros two q d was.0 (sym was.2 ∙ same)
-        | inl e ↦ (well zero).not_zeros two (sym c.data_here ∙ ap (λ z. n.world.cached (lay.data_page z)) (sym e) ∙ same)
+        | inl e ↦ zeros zero two (sym c.data_here ∙ ap (λ z. n.world.cached (lay.data_page z)) (sym e) ∙ same)
       ];
     }
   ]
 
-module _ (lay : Layout) (top version : ℕ) (apart : Apart lay) (m n : Moment) (k : EngineInvariant lay top true m) (old : IsTight lay version m.world) (room : HasRoom lay top m.world) where
+module _ (lay : Layout) (top version : ℕ) (apart : Apart lay) (m n : Moment) (k : EngineInvariant lay top true m) (old : IsTight lay version m.world) where
   emptied_tight : (l o : ℕ) → Discarded lay (known_at lay m) m.world n.world l o → DataKept lay m.world n.world → ((p : ℕ) → IsData lay p → SameWaste lay m.world n.world p) → IsTight lay version n.world
   emptied_tight l o x d waste = kept_tight lay version m.world n.world old waste (λ p is pos. (subst (λ z. 0 < z) (x.counts p is) pos, x.prints p is, (d.pages p is).0))
 
@@ -146,10 +147,10 @@ module _ (lay : Layout) (top version : ℕ) (apart : Apart lay) (m n : Moment) (
   step_tight (Discard l o x d g b e) h = emptied_tight l o x d (λ p i. step_waste lay top true apart m n k p i (Discard l o x d g b e) tt)
   step_tight (FoldZero l o i z x d e b q) h = emptied_tight l o x d (λ p j. step_waste lay top true apart m n k p j (FoldZero l o i z x d e b q) tt)
   step_tight (Write l o p content x c g b e) h =
-      renamed_tight lay top version m n k old (λ q i. step_waste lay top true apart m n k q i (Write l o p content x c g b e) tt) room l o p content x c h
+      renamed_tight lay top version m n k old (λ q i. step_waste lay top true apart m n k q i (Write l o p content x c g b e) tt) l o p content x c (λ zero. (h zero).is_new) (λ zero. (h zero).not_zeros)
   step_tight (Fold l o p i x c e b z) h =
-      renamed_tight lay top version m n k old (λ q j. step_waste lay top true apart m n k q j (Fold l o p i x c e b z) tt) room l o p (m.world.cached (lay.data_page o)) x c
-      (λ zero. record { none_usable = h zero; not_zeros = not_zeros l o x.released.in_range i x.released.was })
+      renamed_tight lay top version m n k old (λ q j. step_waste lay top true apart m n k q j (Fold l o p i x c e b z) tt) l o p (m.world.cached (lay.data_page o)) x c h
+      (λ zero. not_zeros l o x.released.in_range i x.released.was)
   step_tight (WriteAgain l p i x w g c e) h = cache_tight lay version m.world n.world old (λ q d. step_waste lay top true apart m n k q d (WriteAgain l p i x w g c e) tt) w.cached
   step_tight (DiscardAgain l z w g c e) h = cache_tight lay version m.world n.world old (λ q d. step_waste lay top true apart m n k q d (DiscardAgain l z w g c e) tt) w.cached
   step_tight (DropData q x e c z) h = kept_tight lay version m.world n.world old (λ p d. step_waste lay top true apart m n k p d (DropData q x e c z) tt)
