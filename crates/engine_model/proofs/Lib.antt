@@ -79,3 +79,4 @@ pub mod SmallScan
 pub mod Drains
 pub mod TightNumbers
 pub mod TightCommands
+pub mod CommandExamples

@@ -16,7 +16,9 @@ use Rattle.engine_model.proofs.Graphs.{begins_none, way_begins}
 use Rattle.engine_model.proofs.Schedule.{step_keeps}
 use Rattle.engine_model.proofs.Session.{mounted_kept, printed_apart, sample_run}
 use Rattle.engine_model.specs.AnyDevice.{IsOrdered}
-use Rattle.engine_model.specs.PassExamples.{all_gone, crossed, late, late_cleared, late_out, stuck, two_ways, unborn_cleared}
+use Rattle.engine_model.specs.PassExamples.{all_gone, crossed, late, late_cleared, late_out, stuck, stuck_later, two_ways, unborn_cleared}
+use Rattle.engine_model.specs.LookingAgain.{ByBarrier, ByWrite, NoStep, OneMore, QuietRun, SparingPass}
+use Rattle.engine_model.specs.SmallRuns.{with_written}
 use Rattle.engine_model.specs.SmallPass.{Applies, ClearsLast, ClearsUnborn, GivenUp, SmallPass, StaysThere}
 
 pub discarded_kept : EngineInvariant printed 5 true discarded
@@ -109,6 +111,13 @@ stuck_order = record {
 
 pub stuck_pass : SmallPass printed stuck [] stuck.world.queue stuck
 stuck_pass = inl (inl (refl, inr (leg refl)), refl)
+
+pub stuck_quiet : QuietRun printed 5 dropped_release stuck_later dropped_release stuck
+stuck_quiet = OneMore dropped_release (with_written printed 4 stuck) (ByWrite 4 (λ a. and-false (eqb a 2 || eqb a 4)) (λ e. omega (arith, e)) refl refl)
+    (OneMore dropped_release stuck_later (ByBarrier refl refl) NoStep)
+
+pub stuck_spared : SparingPass printed stuck stuck [] stuck.world.queue stuck
+stuck_spared = inl (inl (inl (refl, inr (leg refl))), refl)
 
 pub crossed_way : Closes crossed.live 1 2
 crossed_way = inr (via {b = 4} refl (leg refl))

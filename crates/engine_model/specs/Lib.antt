@@ -40,3 +40,4 @@ pub mod SmallSession
 pub mod Pair
 pub mod Counterexamples
 pub mod PassExamples
+pub mod CommandExamples

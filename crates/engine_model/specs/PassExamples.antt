@@ -5,7 +5,7 @@ use Rattle.engine_model.specs.Examples.{dropped_release, empty, printed, waiting
 use Rattle.engine_model.specs.Invariant.{Moment}
 use Rattle.order_model.specs.Pool.{after_zeroed}
 use Rattle.engine_model.specs.Session.{discarded, mounted, unborn_release, wrote}
-use Rattle.engine_model.specs.SmallRuns.{in_state, with_print, with_release_out}
+use Rattle.engine_model.specs.SmallRuns.{in_state, with_barrier, with_print, with_release_out, with_written}
 use Rattle.engine_model.specs.SmallSteps.{given_up, touched}
 use Rattle.engine_model.specs.SmallPass.{print_readied, readied}
 
@@ -38,6 +38,10 @@ late_out = with_release_out printed 1 (0 ∷ []) [] (after_zeroed 1 late.pool) l
 -- the count page waits to go before the map page, so a release of what the block held before stays
 abbrev pub stuck : Moment
 stuck = in_state (record written { queue = dropped_release ∷ [] }) wrote
+
+-- the data page goes out, and a barrier comes: the release is as blocked as it was
+abbrev pub stuck_later : Moment
+stuck_later = with_barrier (with_written printed 4 stuck)
 
 -- an edge leads to a data page, as none does in a store: 2 before 4 before 1
 abbrev pub crossed : World

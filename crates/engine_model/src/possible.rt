@@ -1,6 +1,13 @@
 //! Concrete small states that meet the step relations, so that none of them is empty.
 
-ghost use Rattle.std.specs.Prelude.{◌≡◌, ◌∷◌, [], false, true};
+ghost use Rattle.std.specs.Prelude.{◌≡◌, ◌<◌, ◌∷◌, [], false, true};
+ghost use Rattle.engine_model.specs.CommandExamples.{all_drained, emptied, emptied_array, leftover, recounted, scan_count_out, scan_print_fixed, scan_print_out, scanned};
+ghost use Rattle.engine_model.specs.Drain.{DoneDrain};
+ghost use Rattle.engine_model.specs.LookingAgain.{QuietRun, SparingPass};
+ghost use Rattle.engine_model.specs.Scan.{TablesSettled};
+ghost use Rattle.engine_model.specs.SmallCommands.{CanDiscard, CanWriteFound, CanWriteFresh};
+ghost use Rattle.engine_model.specs.SmallScan.{IsDrained, SmallScan};
+ghost use Rattle.engine_model.specs.Tight.{IsSettled, IsTight, WantsPage};
 ghost use Rattle.engine_model.specs.Commands.{Gains, PageContent, Renamed};
 ghost use Rattle.engine_model.specs.Edits.{ContentEdits, Edits, Grown};
 ghost use Rattle.engine_model.specs.Entries.{Apart};
@@ -11,7 +18,7 @@ ghost use Rattle.engine_model.specs.Known.{Tells};
 ghost use Rattle.engine_model.specs.Pair.{equal_pages, folded, pair};
 ghost use Rattle.engine_model.specs.AnyDevice.{IsOrdered};
 ghost use Rattle.engine_model.specs.Pass.{Pass};
-ghost use Rattle.engine_model.specs.PassExamples.{all_gone, late, late_out, stuck};
+ghost use Rattle.engine_model.specs.PassExamples.{all_gone, late, late_out, stuck, stuck_later};
 ghost use Rattle.engine_model.specs.Releases.{Applied};
 ghost use Rattle.engine_model.specs.Schedule.{Run};
 ghost use Rattle.engine_model.specs.Session.{count_gone, discarded, dropped, mounted, wrote};
@@ -67,4 +74,41 @@ pub fn passes_are_possible()
     ensures gives_up { EngineInvariant printed 5 true discarded × SmallPass printed discarded [] discarded.world.queue all_gone }
     ensures last_print { IsOrdered printed late.world × SmallPass printed late [] late.world.queue late_out }
     ensures stays { IsOrdered printed stuck.world × SmallPass printed stuck [] stuck.world.queue stuck }
+{}
+
+/// A step of a pass may be spared: a release that is blocked stays so over a write of a data page and a barrier, and a
+/// pass that passes it over without a look is one.
+pub fn a_look_can_be_spared()
+    ensures quiet { QuietRun printed 5 dropped_release stuck_later dropped_release stuck }
+    ensures spared { SparingPass printed stuck stuck [] stuck.world.queue stuck }
+{}
+
+/// A write to a fresh page and one to a page that holds the content already, and a discard of a block that was flushed.
+pub fn commands_are_possible()
+    ensures fresh { EngineInvariant printed 5 true mounted
+        × CanWriteFresh printed 5 mounted 0 0 1 (7 ∷ []) (1 ∷ []) (1 ∷ (7 ∷ [])) (1 ∷ [])
+        × Gains mounted.array written_array 0 (7 ∷ []) }
+    ensures found { EngineInvariant printed 5 true discarded
+        × CanWriteFound printed 5 discarded.world 0 0 1 (7 ∷ []) (2 ∷ []) (1 ∷ []) }
+    ensures discard { EngineInvariant printed 5 true flushed × CanDiscard printed flushed.world 0 1 (0 ∷ [])
+        × Gains flushed.array emptied_array 0 printed.zero_block }
+{}
+
+/// After that discard a drain: the map page goes out, the pass applies the release and takes the last print away, and
+/// the second round writes the print page and then the count page.
+pub fn a_drain_is_possible()
+    ensures drain { EngineInvariant printed 5 true emptied × DoneDrain printed 5 emptied all_drained }
+{}
+
+/// A scan over a page that a crash left counted: its print goes, its count is set to no name, and both pages go out.
+pub fn a_scan_is_possible()
+    ensures scan { EngineInvariant printed 5 true leftover × IsDrained printed leftover.world
+        × SmallScan printed 5 1 leftover (recounted ∷ (scan_print_out ∷ (scan_print_fixed ∷ (scan_count_out ∷ (scanned ∷ [])))))
+        × TablesSettled printed scanned }
+{}
+
+/// A tight state in which nothing waits, and one in which a content wants a fresh page.
+pub fn nothing_wasted_is_possible()
+    ensures settled { IsTight printed 2 flushed.world × IsSettled printed flushed × (printed.blocks < 5) }
+    ensures wanted { IsTight printed 2 mounted.world × WantsPage printed 5 2 mounted.world (7 ∷ []) }
 {}
