@@ -2,7 +2,8 @@
 //! whatever the schedule and the faults.
 //!
 //! Each law is the contract of a public function with an empty body: nothing is computed here, and a caller cites
-//! what it needs. `docs/RULES.md` tells the argument in prose.
+//! what it needs. `docs/RULES.md` tells the argument in prose; README.md says where each law stands and which lemma needs
+//! which fact.
 #![tactic(auto)]
 
 pub mod any_device;
