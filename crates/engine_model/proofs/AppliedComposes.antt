@@ -15,10 +15,13 @@ use Rattle.engine_model.specs.Entries.{Apart, IsTable, cached_count, cached_name
 use Rattle.engine_model.specs.Invariant.{EngineInvariant, Moment, ToldBirths, ToldZero, known_at}
 use Rattle.engine_model.specs.Pass.{Drops, Lowers, Pass}
 use Rattle.order_model.specs.Pool.{Told, after_zeroed}
+use Rattle.engine_model.specs.Pool.{PoolExact}
 use Rattle.engine_model.specs.Releases.{Applied, IsLastPrint, NeededBarrier, NeededEdge}
 use Rattle.engine_model.specs.Schedule.{DeviceRun, NoNode, last_of}
 use Rattle.engine_model.specs.SmallRuns.{in_state, with_release_out}
 use Rattle.engine_model.specs.SmallSteps.{touched}
+use Rattle.engine_model.proofs.Frames.{ToldNothing, lowered_told}
+use Rattle.engine_model.proofs.PoolExact.{edited_exact}
 use Rattle.engine_model.proofs.Views.{none_some}
 use Rattle.engine_model.proofs.GivenUp.{given_up_is}
 use Rattle.engine_model.proofs.Passes.{append_one, drained_twice}
@@ -326,7 +329,38 @@ module _ (lay : Layout) (top : ℕ) (sound : Bool) (apart : Apart lay) (m n : Mo
         pool = λ q. ap (λ y. y.pool q) e;
       }
 
+  -- what the pool knows stays exact
+  pub applies_exact : (p : ℕ) → PoolExact lay m.world (m.pool p) p → PoolExact lay n.world (n.pool p) p
+  applies_exact p old = from x.gives_up
+    where
+      told : ToldNothing x.cleared.pool x.pool
+      told = lowered_told lay r.page x.cleared out x.told
+
+      pool : (q : ℕ) → x.cleared.pool q ≡ m.pool q
+      pool q = ap (λ y. y.pool q) rest
+
+      at_out : PoolExact lay out.world (out.pool p) p
+      at_out = edited_exact lay m.world out.world (m.pool p) (out.pool p) p old (ap (λ y. y.newest (lay.count_page p)) rest) (λ page c h. elim h [
+        | inl e ↦ inl (e ∙ sym (ap (λ y. y.newest page) rest))
+        | inr has ↦ inr (subst (λ ys. IsAmong c ys) (sym (ap (λ y. y.older page) rest)) has)
+      ]) (told.tried p ∙ ap (λ y. y.tried) (pool p)) (told.newest p ∙ ap (λ y. y.newest) (pool p))
+
+      from : GivesUp lay r.page x.count out n → PoolExact lay n.world (n.pool p) p
+      from (StaysThere e) = subst (λ z. PoolExact lay z.world (z.pool p) p) (sym e) at_out
+      from (GivenUp z none e) = subst (λ y. PoolExact lay y.world (y.pool p) p) (sym e) (record { possible = at_out.possible; newest = at_out.newest })
+
 module _ (lay : Layout) (top : ℕ) (sound : Bool) (apart : Apart lay) where
+  pub pass_exact : (m n : Moment) (kept todo : List Release) → EngineInvariant lay top sound m → m.world.queue ≡ kept ++ todo → SmallPass lay m kept todo n
+      → (p : ℕ) → PoolExact lay m.world (m.pool p) p → PoolExact lay n.world (n.pool p) p
+  pass_exact m n kept [] k queue s p old = subst (λ z. PoolExact lay z.world (z.pool p) p) (sym s) old
+  pass_exact m n kept (r ∷ todo) k queue (inl s) p old = pass_exact m n (kept ++ r ∷ []) todo k (queue ∙ sym (append_one kept todo r)) s.1 p old
+  pass_exact m n kept (r ∷ todo) k queue (inr s) p old = elim s.1 [
+    | inl x ↦ pass_exact s.0 n kept todo (applies_keeps lay top sound apart m s.0 r kept todo k queue x)
+        (out_queue lay apart m s.0 r kept todo (k.counts.lost_name_owes_release.in_range r.block r.page r.stage (rw queue (middle kept todo r))).1 (inl x)) s.2 p
+        (applies_exact lay top sound apart m s.0 r kept todo k queue x p old)
+    | inr x ↦ absurd (no_leaves lay top sound apart m s.0 r kept todo k queue x)
+  ]
+
   pub pass_composed : (m n : Moment) (kept todo : List Release) → EngineInvariant lay top sound m → m.world.queue ≡ kept ++ todo → SmallPass lay m kept todo n → Pass lay m kept todo n
   pass_composed m n kept [] k queue p = p
   pass_composed m n kept (r ∷ todo) k queue (inl p) = inl (p.0, pass_composed m n (kept ++ r ∷ []) todo k (queue ∙ sym (append_one kept todo r)) p.1)

@@ -10,12 +10,12 @@ use Rattle.engine_model.specs.Entries.{Apart, EdgeKind, NoEdge, cached_count, ca
 use Rattle.engine_model.specs.Frames.{Frame, both, count_reach, live_reach, mark_reach, print_reach}
 use Rattle.engine_model.specs.Invariant.{EngineInvariant, Moment, ToldZero}
 use Rattle.engine_model.specs.Scan.{CorrectsAt}
-use Rattle.engine_model.specs.SmallRuns.{in_state}
+use Rattle.engine_model.specs.SmallRuns.{in_state, with_count}
 use Rattle.engine_model.specs.SmallScan.{CountRight, CountSet, FixesCount, FixesPrint, IsDrained, PrintCleared, PrintMade, PrintRight, count_fix_reach, print_fix_reach}
 use Rattle.engine_model.specs.SmallSteps.{ordered, touched}
 use Rattle.engine_model.proofs.Corrected.{sure}
 use Rattle.engine_model.proofs.Counting.{count_some}
-use Rattle.engine_model.proofs.Frames.{counted_frame, edge_here, frame_rest, frame_same, frame_then, ordered_frame, printed_frame, touched_frame}
+use Rattle.engine_model.proofs.Frames.{counted_frame, edge_here, frame_rest, frame_same, frame_then, lowered_told, ordered_frame, printed_frame, touched_frame}
 use Rattle.engine_model.proofs.Graphs.{way_ends}
 use Rattle.engine_model.proofs.Lowered.{recounted_keeps}
 use Rattle.engine_model.proofs.Quiet.{count_table, ordered_keeps, print_table, put_here, touched_here, touched_keeps, touched_other}
@@ -173,7 +173,7 @@ module _ (lay : Layout) (top : ℕ) (sound : Bool) (apart : Apart lay) (m : Mome
     count_frame (CountRight h e) = subst (λ z. Frame lay (count_fix_reach lay p) j z) (sym e) (frame_same lay (count_fix_reach lay p) j)
     count_frame (CountSet c pool sets e told) = subst (λ z. Frame lay (count_fix_reach lay p) j z) (sym e)
         (frame_then lay (mark_reach K) (count_reach p false) j counted _ (touched_frame lay apart j K)
-        (counted_frame lay apart counted p (cached_names lay m.world p) c j.world.queue pool false (λ h. refl) is sets (touched_here j.world K)))
+        (counted_frame lay apart counted p (cached_names lay m.world p) c j.world.queue pool false (λ h. refl) is sets (touched_here j.world K) (lowered_told lay p j (with_count lay p c pool counted) (subst (λ z. ToldZero lay p j z) e told))))
 
     count_here : FixesCount lay p (cached_names lay m.world p) j n → cached_count lay n.world p ≡ cached_names lay m.world p
     count_here (CountRight h e) = ap (λ z. cached_count lay z.world p) e ∙ h

@@ -8,7 +8,7 @@ use Rattle.engine_model.specs.Invariant.{EngineInvariant, Moment}
 use Rattle.engine_model.specs.SmallCommands.{CanNamePage, CanWriteFound, NamesPage, Writes, page_name_reach, raise_reach, with_found_write, with_page_raised}
 use Rattle.engine_model.specs.SmallRuns.{in_state}
 use Rattle.engine_model.specs.SmallSteps.{touched}
-use Rattle.engine_model.proofs.Frames.{counted_frame, frame_rest, frame_then, touched_frame}
+use Rattle.engine_model.proofs.Frames.{counted_frame, frame_rest, frame_then, told_same, touched_frame}
 use Rattle.engine_model.proofs.PageNamed.{name_released, named_page_keeps, names_page, page_name_frame}
 use Rattle.engine_model.proofs.Puts.{sets_name_on}
 use Rattle.engine_model.proofs.Quiet.{count_table, map_table, put_here, raised_keeps, touched_here, touched_keeps}
@@ -31,7 +31,7 @@ module _ (lay : Layout) (top : ℕ) (sound : Bool) (apart : Apart lay) (m : Mome
 
   raise : Frame lay (raise_reach lay p) m raised
   raise = frame_then lay (mark_reach (lay.count_page p)) (count_reach p false) m marked raised (touched_frame lay apart m (lay.count_page p))
-      (counted_frame lay apart marked p (cached_count lay m.world p + 1) count marked.world.queue m.pool false (λ h. refl) x.is_data x.sets_count (touched_here m.world (lay.count_page p)))
+      (counted_frame lay apart marked p (cached_count lay m.world p + 1) count marked.world.queue m.pool false (λ h. refl) x.is_data x.sets_count (touched_here m.world (lay.count_page p)) (told_same m.pool))
 
   count_raised : cached_count lay raised.world p ≡ cached_count lay m.world p + 1
   count_raised = ap (λ y. lay.count_in y p) (put_here marked.world (lay.count_page p) count) ∙ x.sets_count.here

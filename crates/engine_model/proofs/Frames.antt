@@ -1,9 +1,9 @@
 -- Frames: nothing, one after another, and that of each small step.
 use Rattle.std.proofs.Common.{◌≡◌, ◌≢◌, inl, inr, ◌<◌, ℕ, Bool, true, false, ◌&&◌, cond, refl, sym, ap, ◌∙◌, subst, List, [], ◌∷◌, ◌++◌, true≢false, eqb, eqb-true, eq-eqb, Option, Some, None}
 use Rattle.std.proofs.lemmas.Bool.{and_from, cases_Bool, false_from_ne_true, or_left, or_parts, or_right}
-use Rattle.order_model.specs.World.{IsData, Layout, Release, World}
+use Rattle.order_model.specs.World.{Agree, IsData, Layout, Release, World}
 use Rattle.order_model.specs.Contents.{IsAmong}
-use Rattle.order_model.specs.Pool.{Told}
+use Rattle.order_model.specs.Pool.{Told, after_take, after_zeroed}
 use Rattle.order_model.specs.Calls.{Call, Change}
 use Rattle.order_model.specs.declared.Slot.TheVariants.{Name, Print}
 use Rattle.order_model.specs.declared.Slot.{Slot}
@@ -11,9 +11,11 @@ use Rattle.engine_model.specs.Births.{AllDirty, Edit, IsSlot, Leads, cached_valu
 use Rattle.engine_model.specs.Edits.{CacheOnly, Ordered}
 use Rattle.engine_model.specs.Entries.{Apart, cached_name, cached_print}
 use Rattle.engine_model.specs.Frames.{EntriesKept, Frame, Grows, IsEdgeOf, MarksGrow, Off, Reach, barred_reach, both, content_reach, count_reach, edge_reach, live_reach, mark_reach, name_reach, no_reach, print_reach, reach_of}
-use Rattle.engine_model.specs.Invariant.{Moment, ToldBirths, known_at}
-use Rattle.engine_model.specs.SmallRuns.{ClearPrint, GiveUp, Lower, Order, OrderByBarrier, Place, Raise, Recount, SetName, SetPrint, SmallStep, Touch, in_state, with_name, with_print, with_release_out}
+use Rattle.engine_model.specs.Invariant.{Moment, ToldBirths, ToldTake, ToldZero, known_at}
+use Rattle.engine_model.specs.Pool.{PoolExact}
+use Rattle.engine_model.specs.SmallRuns.{ClearPrint, GiveUp, Lower, Order, OrderByBarrier, Place, Raise, Recount, SetName, SetPrint, SmallStep, Touch, in_state, with_count, with_name, with_print, with_release_out}
 use Rattle.engine_model.specs.SmallSteps.{CanName, SetsCount, SetsPrint, lowered, ordered, ordered_after, ordered_by_barrier, placed, pushed, put, touched}
+use Rattle.engine_model.proofs.PoolExact.{edited_exact}
 use Rattle.engine_model.proofs.Puts.{puts_content, puts_count, puts_name, puts_print}
 use Rattle.engine_model.proofs.Quiet.{put_here, put_other, some_barred, some_edge, touched_here, touched_other}
 use Rattle.engine_model.proofs.Whole.{nothing_told}
@@ -151,6 +153,8 @@ frame_same lay x m = record {
   queue = λ h. refl;
   pool = λ h q. refl;
   array = λ h l. refl;
+  tried = λ q. refl;
+  newest = λ q. refl;
 }
 
 pub frame_then : (lay : Layout) (x y : Reach) (m j n : Moment) → Frame lay x m j → Frame lay y j n → Frame lay (both x y) m n
@@ -161,6 +165,8 @@ frame_then lay x y m j n f g = record {
   queue = λ h. let off = or_parts x.queue y.queue h in g.queue off.1 ∙ f.queue off.0;
   pool = λ h q. let off = or_parts x.pool y.pool h in g.pool off.1 q ∙ f.pool off.0 q;
   array = λ h l. let off = or_parts x.array y.array h in g.array off.1 l ∙ f.array off.0 l;
+  tried = λ q. g.tried q ∙ f.tried q;
+  newest = λ q. g.newest q ∙ f.newest q;
 }
 
 -- what edits leave is what an edit of the cache leaves
@@ -293,19 +299,52 @@ frame_state lay x m v marks entries names prints queue = record {
   queue = λ h. queue;
   pool = λ h q. refl;
   array = λ h l. refl;
+  tried = λ q. refl;
+  newest = λ q. refl;
 }
+
+-- what the pool is told of a count that changes is nothing of the device
+pub record ToldNothing (old new : ℕ → Told) : Type 0 where
+  pub tried : (q : ℕ) → (new q).tried ≡ (old q).tried
+  pub newest : (q : ℕ) → (new q).newest ≡ (old q).newest
+
+pub told_same : (pool : ℕ → Told) → ToldNothing pool pool
+told_same pool = record { tried = λ q. refl; newest = λ q. refl }
+
+pub take_told : (p : ℕ) (pool : ℕ → Told) → ToldNothing pool (after_take p pool)
+take_told p pool = record { tried = λ q. refl; newest = λ q. refl }
+
+agree_told : (old new now : ℕ → Told) → ToldNothing old new → Agree now new → ToldNothing old now
+agree_told old new now t e = record { tried = λ q. ap (λ x. x.tried) (e q) ∙ t.tried q; newest = λ q. ap (λ x. x.newest) (e q) ∙ t.newest q }
+
+raised_told : (lay : Layout) (p : ℕ) (m n : Moment) → ToldTake lay p m n → ToldNothing m.pool n.pool
+raised_told lay p m n (inl t) = agree_told m.pool (after_take p m.pool) n.pool (take_told p m.pool) t.1
+raised_told lay p m n (inr t) = agree_told m.pool m.pool n.pool (told_same m.pool) t.1
+
+pub lowered_told : (lay : Layout) (p : ℕ) (m n : Moment) → ToldZero lay p m n → ToldNothing m.pool n.pool
+lowered_told lay p m n (inl t) = agree_told m.pool (after_zeroed p m.pool) n.pool (record { tried = λ q. refl; newest = λ q. refl }) t.1
+lowered_told lay p m n (inr t) = agree_told m.pool m.pool n.pool (told_same m.pool) t.1
+
+-- so what the pool knows stays exact
+pub frame_exact : (lay : Layout) (x : Reach) (m n : Moment) → Frame lay x m n → (p : ℕ) → PoolExact lay m.world (m.pool p) p → PoolExact lay n.world (n.pool p) p
+frame_exact lay x m n f p old = edited_exact lay m.world n.world (m.pool p) (n.pool p) p old (f.marks.newest (lay.count_page p)) (λ page c h. elim h [
+  | inl e ↦ inl (e ∙ sym (f.marks.newest page))
+  | inr has ↦ inr (subst (λ ys. IsAmong c ys) (sym (f.marks.older page)) has)
+]) (f.tried p) (f.newest p)
 
 -- a count page gets a content, and maybe releases leave the queue
 pub counted_frame : (lay : Layout) (apart : Apart lay) (m : Moment) (p count : ℕ) (c : List ℕ) (queue : List Release) (pool : ℕ → Told) (moves : Bool) → (moves ≡ false → queue ≡ m.world.queue)
     → IsData lay p → SetsCount lay (m.world.cached (lay.count_page p)) c p count → m.world.dirty (lay.count_page p) ≡ true
-    → Frame lay (count_reach p moves) m (with_release_out lay p c queue pool m)
-counted_frame lay apart m p count c queue pool moves same is sets dirty = record {
+    → ToldNothing m.pool pool → Frame lay (count_reach p moves) m (with_release_out lay p c queue pool m)
+counted_frame lay apart m p count c queue pool moves same is sets dirty told = record {
   marks = lowered_marks (count_reach p moves) m.world (lay.count_page p) c queue dirty;
   entries = record { names = kept.names; counts = kept.counts; prints = kept.prints; contents = kept.contents };
   births = nothing_told lay m (with_release_out lay p c queue pool m) refl (λ l lt. kept.names l lt tt) (λ q d. kept.prints q d tt);
   queue = same;
   pool = λ h. absurd (true≢false h);
   array = λ h l. refl;
+  tried = told.tried;
+  newest = told.newest;
 }
   where
     kept : EntriesKept lay (record no_reach { counts = p ∷ [] }) m.world.cached (put (lay.count_page p) c m.world).cached
@@ -323,6 +362,8 @@ printed_frame lay apart m p from to c print is sets dirty was now = record {
   queue = λ h. refl;
   pool = λ h q. refl;
   array = λ h l. refl;
+  tried = λ q. refl;
+  newest = λ q. refl;
 }
   where
     kept : EntriesKept lay (print_reach p) m.world.cached (put (lay.print_page p) c m.world).cached
@@ -339,6 +380,8 @@ named_frame lay apart m l o p c array can = record {
   queue = λ h. absurd (true≢false h);
   pool = λ h q. refl;
   array = λ h. absurd (true≢false h);
+  tried = λ q. refl;
+  newest = λ q. refl;
 }
   where
     kept : EntriesKept lay (record no_reach { names = l ∷ [] }) m.world.cached (put (lay.map_page l) c m.world).cached
@@ -382,16 +425,19 @@ module _ (lay : Layout) (apart : Apart lay) (m : Moment) where
   step_frame top n (OrderByBarrier before after i y z e) g = subst (λ w. Frame lay (barred_reach before after) m w) (sym e)
       (edge_frame (barred_reach before after) (ordered_by_barrier before after m.world) (barred_marks m.world before after z (barred_reach before after) (λ a b new. inl new) y) refl refl refl refl)
   step_frame top n (Raise p c pool can e t) g = subst (λ w. Frame lay (count_reach p false) m w) (sym e)
-      (counted_frame lay apart m p _ c m.world.queue pool false (λ h. refl) can.is_data can.sets can.dirty)
+      (counted_frame lay apart m p _ c m.world.queue pool false (λ h. refl) can.is_data can.sets can.dirty
+      (raised_told lay p m (with_count lay p c pool m) (subst (λ w. ToldTake lay p m w) e t)))
   step_frame top n (SetPrint p c print can e) g = subst (λ w. Frame lay (print_reach p) m w) (sym e)
       (printed_frame lay apart m p 0 1 c (Some print) can.is_data can.sets can.dirty (ap has_print can.had_none) refl)
   step_frame top n (SetName l o p c array can gain e) g = subst (λ w. Frame lay (name_reach l) m w) (sym e) (named_frame lay apart m l o p c array can)
   step_frame top n (ClearPrint p c print can e) g = subst (λ w. Frame lay (print_reach p) m w) (sym e)
       (printed_frame lay apart m p 1 0 c None can.is_data can.sets can.dirty (ap has_print can.had) refl)
   step_frame top n (Lower r before after c count pool can e t) g = subst (λ w. Frame lay (count_reach r.page true) m w) (sym e)
-      (counted_frame lay apart m r.page count c (before ++ after) pool true (λ h. absurd (true≢false h)) g can.sets can.dirty)
+      (counted_frame lay apart m r.page count c (before ++ after) pool true (λ h. absurd (true≢false h)) g can.sets can.dirty
+      (lowered_told lay r.page m (with_release_out lay r.page c (before ++ after) pool m) (subst (λ w. ToldZero lay r.page m w) e t)))
   step_frame top n (Recount p c count pool can e t) g = subst (λ w. Frame lay (count_reach p false) m w) (sym e)
-      (counted_frame lay apart m p count c m.world.queue pool false (λ h. refl) can.is_data can.sets can.dirty)
+      (counted_frame lay apart m p count c m.world.queue pool false (λ h. refl) can.is_data can.sets can.dirty
+      (lowered_told lay p m (with_count lay p c pool m) (subst (λ w. ToldZero lay p m w) e t)))
   step_frame top n (GiveUp p d z e) g = absurd g
 
   -- one page before another, as the marks ask

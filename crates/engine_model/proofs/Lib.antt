@@ -61,14 +61,14 @@ pub mod StaysBlocked
 pub mod PassKeeps
 pub mod LooksAgain
 pub mod Ordering
+pub mod Puts
+pub mod Frames
 pub mod AppliedComposes
 pub mod PassEffects
 pub mod PassExamples
 pub mod PassRoom
 pub mod FreedPage
 pub mod CleanPages
-pub mod Puts
-pub mod Frames
 pub mod PageNamed
 pub mod SmallDiscard
 pub mod PageFilled

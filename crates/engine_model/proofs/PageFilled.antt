@@ -11,7 +11,7 @@ use Rattle.engine_model.specs.Known.{Free}
 use Rattle.engine_model.specs.SmallCommands.{CanFill, FillsPage, fill_reach, ready_to_print, with_page_counted, with_page_filled}
 use Rattle.engine_model.specs.SmallRuns.{in_state}
 use Rattle.engine_model.specs.SmallSteps.{CanPrint, CanRaise, SetsCount, SetsPrint, ordered, placed, touched}
-use Rattle.engine_model.proofs.Frames.{after_marks, after_ordered, by_marks, counted_frame, edge_here, frame_after, frame_then, ordered_frame, placed_frame, printed_frame, touched_frame}
+use Rattle.engine_model.proofs.Frames.{after_marks, after_ordered, by_marks, counted_frame, edge_here, frame_after, frame_then, ordered_frame, placed_frame, printed_frame, take_told, touched_frame}
 use Rattle.engine_model.proofs.NewEdges.{data_open}
 use Rattle.engine_model.proofs.Puts.{sets_count_on, sets_print_on}
 use Rattle.engine_model.proofs.Quiet.{count_table, either_keeps, ordered_keeps, placed_keeps, print_table, put_here, put_other, raised_keeps, touched_here, touched_keeps}
@@ -113,7 +113,7 @@ module _ (lay : Layout) (top : ℕ) (sound : Bool) (apart : Apart lay) (m : Mome
   ready_frame : Frame lay (both (content_reach lay p) (both (mark_reach K) (both (mark_reach F) (both (count_reach p false) (both (live_reach K F) (edge_reach D F)))))) m ready
   ready_frame = frame_then lay (both (content_reach lay p) (both (mark_reach K) (mark_reach F))) (both (count_reach p false) (both (live_reach K F) (edge_reach D F))) m marked ready marked_frame
       (frame_then lay (count_reach p false) (both (live_reach K F) (edge_reach D F)) marked counted ready
-      (counted_frame lay apart marked p 1 count marked.world.queue (after_take p m.pool) false (λ h. refl) dp sets_count count_marked)
+      (counted_frame lay apart marked p 1 count marked.world.queue (after_take p m.pool) false (λ h. refl) dp sets_count count_marked (take_told p m.pool))
       (frame_then lay (live_reach K F) (edge_reach D F) counted first ready (ordered_frame lay apart counted K F count_marked (touched_here counting.world F))
       (frame_after lay apart first D F (touched_here counting.world F))))
 

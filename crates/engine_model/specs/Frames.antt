@@ -84,6 +84,9 @@ pub record Frame (lay : Layout) (x : Reach) (m n : Moment) : Type 0 where
   pub queue : x.queue ≡ false → n.world.queue ≡ m.world.queue
   pub pool : x.pool ≡ false → Agree n.pool m.pool
   pub array : x.array ≡ false → Agree n.array m.array
+  -- the pool is told nothing of the device
+  pub tried : (q : ℕ) → (n.pool q).tried ≡ (m.pool q).tried
+  pub newest : (q : ℕ) → (n.pool q).newest ≡ (m.pool q).newest
 
 -- how far each kind of edit reaches: a page becomes dirty, a data page gets its content, an edge is added, Live or by a barrier or as the marks ask,
 abbrev pub mark_reach : ℕ → Reach

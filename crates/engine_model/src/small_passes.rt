@@ -6,16 +6,20 @@ ghost use Rattle.engine_model.specs.Entries.{Apart};
 ghost use Rattle.engine_model.specs.Invariant.{EngineInvariant, Moment};
 ghost use Rattle.engine_model.specs.Pass.{Drops, Lowers, Pass};
 ghost use Rattle.engine_model.specs.PassEffects.{PassEffects};
+ghost use Rattle.engine_model.specs.Pool.{PoolExact};
 ghost use Rattle.engine_model.specs.Room.{room_taken};
 ghost use Rattle.engine_model.specs.Schedule.{DeviceRun, NoNode, last_of};
 ghost use Rattle.engine_model.specs.SmallPass.{Applies, SmallPass};
 ghost use Rattle.engine_model.specs.SmallRuns.{with_release_out};
 ghost use Rattle.order_model.specs.World.{Layout, Release};
 
-/// A pass keeps the invariant: each of its steps does.
+/// A pass keeps the invariant: each of its steps does. And where the pool knew each free page it does so still.
 pub fn pass_keeps()
     ensures kept { (lay : Layout) (top : ℕ) (sound : Bool) → Apart lay → (m n : Moment)
         → EngineInvariant lay top sound m → SmallPass lay m [] m.world.queue n → EngineInvariant lay top sound n }
+    ensures exact { (lay : Layout) (top : ℕ) (sound : Bool) → Apart lay → (m n : Moment)
+        → EngineInvariant lay top sound m → SmallPass lay m [] m.world.queue n → (p : ℕ)
+        → PoolExact lay m.world (m.pool p) p → PoolExact lay n.world (n.pool p) p }
 {}
 
 /// The small steps of an applied release are the two steps that the laws of whole commands speak of: the count is
