@@ -1,10 +1,10 @@
 -- The small steps of an applied release are the big one.
-use Rattle.std.proofs.Common.{◌≡◌, ◌≢◌, ◌⊎◌, inl, inr, ◌+◌, ◌<◌, ℕ, Bool, true, false, ◌&&◌, arith, refl, sym, ap, ◌∙◌, subst, List, [], ◌∷◌, ◌++◌, Some, None, true≢false, eqb, eq-eqb, eqb-true}
+use Rattle.std.proofs.Common.{◌≡◌, ◌≢◌, ◌⊎◌, inl, inr, ◌+◌, ◌<◌, ℕ, Bool, true, false, ◌&&◌, arith, refl, sym, ap, ◌∙◌, subst, List, [], ◌∷◌, ◌++◌, Some, None, true≢false, eqb, eq-eqb}
 use Rattle.std.proofs.lemmas.Bool.{cases_eq, or_left, or_right, and_from}
 use Rattle.order_model.specs.World.{Agree, IsData, Layout, Queued, Release, World}
 use Rattle.order_model.specs.Contents.{IsAmong}
 use Rattle.order_model.specs.Calls.{Change}
-use Rattle.engine_model.specs.Births.{Edit, IsSlot, Leads, cached_value, has_print}
+use Rattle.engine_model.specs.Births.{IsSlot, Leads, cached_value, has_print}
 use Rattle.order_model.specs.declared.Slot.TheVariants.{Name, Print}
 use Rattle.order_model.specs.declared.Slot.{Slot}
 use Rattle.engine_model.specs.Commands.{DataKept}
@@ -22,6 +22,7 @@ use Rattle.engine_model.specs.SmallRuns.{in_state, with_release_out}
 use Rattle.engine_model.specs.SmallSteps.{touched}
 use Rattle.engine_model.proofs.Frames.{ToldNothing, lowered_told}
 use Rattle.engine_model.proofs.PoolExact.{edited_exact}
+use Rattle.engine_model.proofs.TellsBirths.{print_told}
 use Rattle.engine_model.proofs.Views.{none_some}
 use Rattle.engine_model.proofs.GivenUp.{given_up_is}
 use Rattle.engine_model.proofs.Passes.{append_one, drained_twice}
@@ -254,31 +255,12 @@ module _ (lay : Layout) (top : ℕ) (sound : Bool) (apart : Apart lay) (m n : Mo
   }
 
   -- what birth_marks is told
-  change : Edit
-  change = record { slot = Print r.page; at = F; from = 1; to = 0 }
-
   name_leads : (l : ℕ) → l < lay.blocks → cached_value lay m.world (Name l) ≡ cached_value lay out.world (Name l)
   name_leads l lt = sym (name_same l lt)
 
   changed : (print : List ℕ) → cached_print lay m.world r.page ≡ Some print → cached_print lay out.world r.page ≡ None → out.calls ≡ Change (Print r.page) F 1 0 ∷ m.calls
       → out.world.dirty F ≡ true → ToldBirths lay m out
-  changed print had gone calls dirty = record {
-    edits = (record { slot = Print r.page; at = F; from = 1; to = 0 }) ∷ [];
-    calls = calls;
-    dirty = (dirty, tt);
-    leads = leads;
-  }
-    where
-      leads : (slot : Slot) → IsSlot lay slot → Leads lay slot ((record { slot = Print r.page; at = F; from = 1; to = 0 }) ∷ []) (cached_value lay m.world slot) (cached_value lay out.world slot)
-      leads (Name l) lt = ((λ e. absurd (true≢false (sym e))), (λ e. name_leads l lt))
-      leads (Print q) d = (
-        (λ h. let e : r.page ≡ q = eqb-true r.page q h in (
-          ap lay.print_page e,
-          sym (ap has_print gone) ∙ ap (λ y. has_print (cached_print lay out.world y)) e,
-          sym (ap (λ y. has_print (cached_print lay m.world y)) e) ∙ ap has_print had,
-        )),
-        (λ h. ap has_print (sym (print_other q d (λ e. true≢false (sym (eq-eqb r.page q (sym e)) ∙ h))))),
-      )
+  changed print had gone calls dirty = print_told lay m out r.page 1 0 (ap has_print had) (ap has_print gone) calls dirty name_same print_other
 
   untold : out.calls ≡ m.calls → cached_print lay out.world r.page ≡ cached_print lay m.world r.page → ToldBirths lay m out
   untold calls same = record { edits = []; calls = calls; dirty = tt; leads = leads }

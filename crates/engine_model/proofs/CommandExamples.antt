@@ -1,5 +1,5 @@
 -- Whole commands, a drain, a scan and a tight state are possible.
-use Rattle.std.proofs.Common.{◌≡◌, ◌≢◌, ◌⊎◌, inl, inr, ◌+◌, ◌<◌, ◌≤◌, ℕ, Bool, true, false, not, ◌||◌, ◌&&◌, arith, refl, sym, ap, ◌∙◌, subst, List, [], ◌∷◌, Some, None, true≢false, eqb, ne_eqb, get_or}
+use Rattle.std.proofs.Common.{◌≡◌, ◌≢◌, ◌⊎◌, inl, inr, ◌+◌, ◌<◌, ◌≤◌, ℕ, Bool, true, false, not, ◌||◌, ◌&&◌, arith, refl, sym, ap, ◌∙◌, subst, List, [], ◌∷◌, Some, true≢false, eqb, ne_eqb, get_or}
 use Rattle.std.proofs.lemmas.Bool.{false_from_ne_true}
 use Rattle.std.proofs.Math.Bool.{and-false}
 use Rattle.order_model.specs.Contents.{IsAmong}
@@ -22,26 +22,19 @@ use Rattle.engine_model.specs.SmallCommands.{CanDiscard, CanWriteFound, CanWrite
 use Rattle.engine_model.specs.SmallPass.{Applies, ClearsLast, StaysThere}
 use Rattle.engine_model.specs.SmallRuns.{with_barrier, with_written}
 use Rattle.engine_model.specs.SmallScan.{CountSet, Fixes, IsDrained, PrintCleared, SmallScan}
-use Rattle.engine_model.specs.SmallSteps.{SetsCount, SetsName, SetsPrint}
+use Rattle.engine_model.specs.SmallSteps.{SetsCount, SetsPrint}
 use Rattle.engine_model.specs.Tight.{IsSettled, IsTight, WantsPage}
 use Rattle.engine_model.proofs.DeviceMoves.{barrier_made_is, page_written_is, page_written_moves}
-use Rattle.engine_model.proofs.Examples.{is_data, no_other, no_zero}
+use Rattle.engine_model.proofs.Examples.{is_data, no_other}
 use Rattle.engine_model.proofs.FlushSession.{switch_start}
 use Rattle.engine_model.proofs.Graphs.{begins_none}
 use Rattle.engine_model.proofs.Scans.{session_start}
 use Rattle.engine_model.proofs.Session.{printed_apart}
 use Rattle.engine_model.proofs.SmallDiscard.{discard_keeps}
+use Rattle.engine_model.proofs.PassExamples.{sets_print}
+use Rattle.engine_model.proofs.SmallSession.{sets_count, sets_name}
 use Rattle.engine_model.proofs.SmallScan.{drained_start}
 use Rattle.engine_model.proofs.Views.{none_some, some_is}
-
-sets_count : (old : List ℕ) (n : ℕ) → SetsCount printed old (n ∷ []) 1 n
-sets_count old n = record { here = refl; other = λ q d ne same. absurd (no_other q d ne); formed = refl }
-
-sets_name : (old : List ℕ) (p : ℕ) → SetsName printed old (p ∷ []) 0 p
-sets_name old p = record { here = refl; other = λ k lt ne same. absurd (no_zero k lt ne); formed = refl }
-
-sets_none : (old : List ℕ) → SetsPrint printed old (0 ∷ []) 1 None
-sets_none old = record { here = refl; other = λ q d ne same. absurd (no_other q d ne); formed = refl }
 
 sets_some : (old : List ℕ) → SetsPrint printed old (1 ∷ (7 ∷ [])) 1 (Some (7 ∷ []))
 sets_some old = record { here = refl; other = λ q d ne same. absurd (no_other q d ne); formed = refl }
@@ -130,7 +123,7 @@ release_applies = record {
   count = 0;
   counted = refl;
   cleared = last_print_gone;
-  clears = ClearsLast (0 ∷ []) (7 ∷ []) refl refl refl (sets_none _) refl;
+  clears = ClearsLast (0 ∷ []) (7 ∷ []) refl refl refl (sets_print _) refl;
   content = 0 ∷ [];
   sets = sets_count _ 0;
   pool = after_zeroed 1 map_fixed.pool;
@@ -214,7 +207,7 @@ leftover_fixes : Fixes printed leftover recounted 1
 leftover_fixes = record {
   is_data = is_data;
   printed = unprinted;
-  print = PrintCleared (0 ∷ []) (7 ∷ []) nameless refl (sets_none _) refl;
+  print = PrintCleared (0 ∷ []) (7 ∷ []) nameless refl (sets_print _) refl;
   count = CountSet (0 ∷ []) (after_zeroed 1 leftover.pool) (subst (λ n. SetsCount printed (1 ∷ []) (0 ∷ []) 1 n) (sym nameless) (sets_count (1 ∷ []) 0)) refl (inl (refl, λ q. refl));
 }
 

@@ -48,6 +48,8 @@ pub mod Tight
 pub mod Grown
 pub mod Whole
 pub mod Quiet
+pub mod Puts
+pub mod TellsBirths
 pub mod SetPrints
 pub mod DeviceMoves
 pub mod SmallSteps
@@ -61,7 +63,6 @@ pub mod StaysBlocked
 pub mod PassKeeps
 pub mod LooksAgain
 pub mod Ordering
-pub mod Puts
 pub mod Frames
 pub mod AppliedComposes
 pub mod PassEffects

@@ -1,6 +1,6 @@
 -- Which blocked releases a pass has to look at again.
 use Rattle.std.proofs.Common.{◌≡◌, ◌≢◌, inl, inr, ◌<◌, ℕ, Bool, false, not, ◌&&◌, ◌||◌, cond, arith, refl, sym, ap, ◌∙◌, subst, List, [], ◌∷◌, ◌++◌, true≢false, eqb, ne_eqb, eq-eqb, Option}
-use Rattle.std.proofs.lemmas.Bool.{cases_eq, cases_Bool, or_left}
+use Rattle.std.proofs.lemmas.Bool.{cases_Bool, or_left}
 use Rattle.std.proofs.Math.Bool.{and-false}
 use Rattle.order_model.specs.World.{Layout, Release, World, IsData}
 use Rattle.order_model.specs.Calls.{Call, Fixed, Tried, is_changed, is_met, is_unborn, since, wrote_last}
@@ -16,7 +16,8 @@ use Rattle.engine_model.proofs.Graphs.{begins_none, way_ends, way_longer}
 use Rattle.engine_model.specs.Pass.{Member}
 use Rattle.engine_model.specs.SmallSteps.{SetsCount, SetsPrint, given_up, ordered, placed, put, touched}
 use Rattle.engine_model.proofs.Passes.{append_one}
-use Rattle.engine_model.proofs.Quiet.{count_table, print_table, put_here, put_other}
+use Rattle.engine_model.proofs.Puts.{puts_count, puts_print}
+use Rattle.engine_model.proofs.Quiet.{count_table, print_table, put_other}
 use Rattle.engine_model.specs.LookingAgain.{ByBarrier, ByRefused, BySmall, ByTaken, ByWrite, LeavesPage, NoStep, OneMore, QuietRun, QuietStep, SparingPass}
 use Rattle.engine_model.specs.SmallPass.{InRange, SmallPass}
 use Rattle.engine_model.proofs.AppliedFrames.{other_slot}
@@ -78,24 +79,16 @@ module _ (lay : Layout) (m : Moment) (r : Release) where
 
 -- a content with one entry changed, seen from another page
 module _ (lay : Layout) (apart : Apart lay) (w : World) (p q : ℕ) (c : List ℕ) (dp : IsData lay p) (dq : IsData lay q) where
-  pub put_count : (n : ℕ) → SetsCount lay (w.cached (lay.count_page p)) c p n → q ≢ p → cached_count lay (put (lay.count_page p) c w) q ≡ cached_count lay w q
-  put_count n sets ne = elim (cases_eq (lay.count_page q) (lay.count_page p)) [
-    | inl e ↦ ap (λ y. lay.count_in ((put (lay.count_page p) c w).cached y) q) e ∙ ap (λ y. lay.count_in y q) (put_here w (lay.count_page p) c) ∙ sets.other q dq ne e
-        ∙ ap (λ y. lay.count_in (w.cached y) q) (sym e)
-    | inr off ↦ ap (λ y. lay.count_in y q) (put_other w (lay.count_page p) c (lay.count_page q) off)
-  ]
+  put_count : (n : ℕ) → SetsCount lay (w.cached (lay.count_page p)) c p n → q ≢ p → cached_count lay (put (lay.count_page p) c w) q ≡ cached_count lay w q
+  put_count n sets ne = (puts_count lay apart w c p n dp sets).counts q dq (ne, tt)
 
-  pub put_print : (print : Option (List ℕ)) → SetsPrint lay (w.cached (lay.print_page p)) c p print → q ≢ p → cached_print lay (put (lay.print_page p) c w) q ≡ cached_print lay w q
-  put_print print sets ne = elim (cases_eq (lay.print_page q) (lay.print_page p)) [
-    | inl e ↦ ap (λ y. lay.print_in ((put (lay.print_page p) c w).cached y) q) e ∙ ap (λ y. lay.print_in y q) (put_here w (lay.print_page p) c) ∙ sets.other q dq ne e
-        ∙ ap (λ y. lay.print_in (w.cached y) q) (sym e)
-    | inr off ↦ ap (λ y. lay.print_in y q) (put_other w (lay.print_page p) c (lay.print_page q) off)
-  ]
+  put_print : (print : Option (List ℕ)) → SetsPrint lay (w.cached (lay.print_page p)) c p print → q ≢ p → cached_print lay (put (lay.print_page p) c w) q ≡ cached_print lay w q
+  put_print print sets ne = (puts_print lay apart w c p print dp sets).prints q dq (ne, tt)
 
-  pub count_kept : cached_count lay (put (lay.print_page p) c w) q ≡ cached_count lay w q
+  count_kept : cached_count lay (put (lay.print_page p) c w) q ≡ cached_count lay w q
   count_kept = ap (λ y. lay.count_in y q) (put_other w (lay.print_page p) c (lay.count_page q) (apart.count_print q p dq dp))
 
-  pub print_kept : cached_print lay (put (lay.count_page p) c w) q ≡ cached_print lay w q
+  print_kept : cached_print lay (put (lay.count_page p) c w) q ≡ cached_print lay w q
   print_kept = ap (λ y. lay.print_in y q) (put_other w (lay.count_page p) c (lay.print_page q) (λ e. apart.count_print p q dp dq (sym e)))
 
 module _ (lay : Layout) (top : ℕ) (apart : Apart lay) (m n : Moment) (r : Release) (is : IsData lay r.page) where

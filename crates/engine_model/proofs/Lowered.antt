@@ -1,5 +1,5 @@
 -- A count is lowered: by its release that is taken out, once the edge of the release stands, or by waste.
-use Rattle.std.proofs.Common.{◌≡◌, ◌≢◌, ◌⊎◌, inl, inr, ◌+◌, ◌<◌, ◌≤◌, ℕ, Bool, true, cond, arith, refl, sym, ap, ◌∙◌, subst, List, ◌++◌, None, eqb, eqb-true, eq-eqb, ne_eqb}
+use Rattle.std.proofs.Common.{◌≡◌, ◌≢◌, ◌⊎◌, inl, inr, ◌+◌, ◌<◌, ◌≤◌, ℕ, Bool, true, cond, arith, refl, sym, ap, ◌∙◌, subst, List, [], ◌∷◌, ◌++◌, None, eqb, eqb-true, eq-eqb, ne_eqb}
 use Rattle.std.proofs.lemmas.Bool.{cases_eq, or_cases, or_left, or_right}
 use Rattle.order_model.specs.World.{Layout, Queued, Release, World, queued, IsData}
 use Rattle.engine_model.specs.Entries.{Apart, HasEdge, cached_count, cached_name, cached_names, cached_print}
@@ -8,6 +8,8 @@ use Rattle.engine_model.specs.Invariant.{EngineInvariant, Moment, ToldPool, Told
 use Rattle.engine_model.specs.Edits.{CacheOnly, ContentEdits, Edits}
 use Rattle.engine_model.specs.SmallSteps.{CanLower, CanRecount, SetsCount, lowered, put}
 use Rattle.engine_model.proofs.Queues.{kept_out, middle, queued_out, was_in}
+use Rattle.engine_model.specs.Frames.{EntriesKept, no_reach}
+use Rattle.engine_model.proofs.Puts.{puts_count}
 use Rattle.engine_model.proofs.Quiet.{count_table, put_formed, put_here, put_other, put_rest, queue_rest}
 use Rattle.engine_model.proofs.Views.{names_by, none_some}
 use Rattle.engine_model.proofs.Whole.{edits_keep_all, nothing_told, pool_untold}
@@ -45,12 +47,11 @@ module _ (lay : Layout) (top : ℕ) (sound : Bool) (apart : Apart lay) (m : Mome
   was_here : (q : ℕ) → q ≡ p → n ≤ cached_count lay w q
   was_here q e = subst (λ y. n ≤ cached_count lay w y) (sym e) x.less
 
+  kept : EntriesKept lay (record no_reach { counts = p ∷ [] }) w.cached v.cached
+  kept = puts_count lay apart w c p n x.is_data x.sets
+
   count_other : (q : ℕ) → IsData lay q → q ≢ p → cached_count lay v q ≡ cached_count lay w q
-  count_other q d ne = elim (cases_eq (lay.count_page q) (lay.count_page p)) [
-    | inl e ↦ ap (λ y. lay.count_in (v.cached y) q) e ∙ ap (λ y. lay.count_in y q) (put_here w (lay.count_page p) c) ∙ x.sets.other q d ne e
-        ∙ ap (λ y. lay.count_in (w.cached y) q) (sym e)
-    | inr off ↦ ap (λ y. lay.count_in y q) (away (lay.count_page q) off)
-  ]
+  count_other q d ne = kept.counts q d (ne, tt)
 
   count_less : (q : ℕ) → IsData lay q → cached_count lay v q ≤ cached_count lay w q
   count_less q d = elim (cases_eq q p) [
@@ -59,13 +60,13 @@ module _ (lay : Layout) (top : ℕ) (sound : Bool) (apart : Apart lay) (m : Mome
   ]
 
   names : (l : ℕ) → l < lay.blocks → cached_name lay v l ≡ cached_name lay w l
-  names l lt = ap (λ y. lay.name_in y l) (away (lay.map_page l) (apart.map_count l p lt x.is_data))
+  names l lt = kept.names l lt tt
 
   prints : (q : ℕ) → IsData lay q → cached_print lay v q ≡ cached_print lay w q
-  prints q d = ap (λ y. lay.print_in y q) (away (lay.print_page q) (λ e. apart.count_print p q x.is_data d (sym e)))
+  prints q d = kept.prints q d tt
 
   data_same : (q : ℕ) → IsData lay q → v.cached (lay.data_page q) ≡ w.cached (lay.data_page q)
-  data_same q d = away (lay.data_page q) (λ e. apart.table_data (lay.count_page p) q (count_table lay p x.is_data) d (sym e))
+  data_same q d = kept.contents q d tt
 
   rest : CacheOnly lay w v
   rest = queue_rest lay w (put (lay.count_page p) c w) queue (put_rest lay w (lay.count_page p) c x.dirty)

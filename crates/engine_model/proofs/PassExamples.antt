@@ -9,7 +9,7 @@ use Rattle.engine_model.specs.Invariant.{EngineInvariant, known_at}
 use Rattle.order_model.specs.Paths.{Closes, LivePath, leg, via}
 use Rattle.engine_model.specs.Releases.{IsBlocked}
 use Rattle.engine_model.specs.Session.{discarded, mounted, unborn_release, wrote}
-use Rattle.engine_model.specs.SmallSteps.{SetsCount, SetsPrint, given_up, ordered}
+use Rattle.engine_model.specs.SmallSteps.{SetsPrint, given_up, ordered}
 use Rattle.order_model.specs.Pool.{after_zeroed}
 use Rattle.engine_model.proofs.Examples.{is_data, no_other}
 use Rattle.engine_model.proofs.Graphs.{begins_none, way_begins}
@@ -19,15 +19,13 @@ use Rattle.engine_model.specs.AnyDevice.{IsOrdered}
 use Rattle.engine_model.specs.PassExamples.{all_gone, crossed, late, late_cleared, late_out, stuck, stuck_later, two_ways, unborn_cleared}
 use Rattle.engine_model.specs.LookingAgain.{ByBarrier, ByWrite, NoStep, OneMore, QuietRun, SparingPass}
 use Rattle.engine_model.specs.SmallRuns.{with_written}
+use Rattle.engine_model.proofs.SmallSession.{sets_count}
 use Rattle.engine_model.specs.SmallPass.{Applies, ClearsLast, ClearsUnborn, GivenUp, SmallPass, StaysThere}
 
 pub discarded_kept : EngineInvariant printed 5 true discarded
 discarded_kept = step_keeps printed 5 true printed_apart wrote discarded (step_keeps printed 5 true printed_apart mounted wrote mounted_kept sample_run.0) sample_run.1.0
 
-sets_count : (old : List ℕ) → SetsCount printed old (0 ∷ []) 1 0
-sets_count old = record { here = refl; other = λ q d ne same. absurd (no_other q d ne); formed = refl }
-
-sets_print : (old : List ℕ) → SetsPrint printed old (0 ∷ []) 1 None
+pub sets_print : (old : List ℕ) → SetsPrint printed old (0 ∷ []) 1 None
 sets_print old = record { here = refl; other = λ q d ne same. absurd (no_other q d ne); formed = refl }
 
 unborn_open : IsBlocked printed (known_at printed discarded) discarded.world unborn_release → ⊥
@@ -42,7 +40,7 @@ unborn_applies = record {
   cleared = unborn_cleared;
   clears = ClearsUnborn (0 ∷ []) (7 ∷ []) refl refl refl (sets_print _) refl;
   content = 0 ∷ [];
-  sets = sets_count _;
+  sets = sets_count _ 0;
   pool = after_zeroed 1 discarded.pool;
   told = inl (refl, λ q. refl);
   gives_up = GivenUp refl (λ a. and-false _) refl;
@@ -63,7 +61,7 @@ late_applies = record {
   cleared = late_cleared;
   clears = ClearsLast (0 ∷ []) (7 ∷ []) refl refl refl (sets_print _) refl;
   content = 0 ∷ [];
-  sets = sets_count _;
+  sets = sets_count _ 0;
   pool = after_zeroed 1 late.pool;
   told = inl (refl, λ q. refl);
   gives_up = StaysThere refl;

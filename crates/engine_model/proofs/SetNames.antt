@@ -1,17 +1,18 @@
 -- A name is set or taken away, and the old one is owed a release.
-use Rattle.std.proofs.Common.{◌≡◌, ◌≢◌, inl, inr, ◌+◌, ◌<◌, ◌≤◌, ℕ, Bool, true, cond, arith, refl, sym, ap, ◌∙◌, subst, List, [], ◌∷◌, ◌++◌, eqb-true, eq-eqb, ne_eqb, true≢false}
+use Rattle.std.proofs.Common.{◌≡◌, ◌≢◌, inl, inr, ◌+◌, ◌<◌, ◌≤◌, ℕ, Bool, true, cond, arith, refl, sym, ap, ◌∙◌, subst, List, [], ◌∷◌, ◌++◌, eq-eqb, ne_eqb}
 use Rattle.std.proofs.lemmas.Bool.{cases_eq}
 use Rattle.order_model.specs.World.{Layout, World, queued, IsData}
 use Rattle.engine_model.specs.Entries.{Apart, cached_count, cached_name, cached_names, cached_print}
 use Rattle.order_model.specs.Calls.{Change}
-use Rattle.order_model.specs.declared.Slot.TheVariants.{Name, Print}
-use Rattle.order_model.specs.declared.Slot.{Slot}
-use Rattle.engine_model.specs.Births.{IsSlot, Leads, cached_value, has_print}
+use Rattle.order_model.specs.declared.Slot.TheVariants.{Name}
 use Rattle.engine_model.specs.Invariant.{EngineInvariant, Moment, ToldBirths, known_at}
 use Rattle.engine_model.specs.Known.{Known, Tells}
 use Rattle.engine_model.specs.Edits.{CacheOnly, ContentEdits, Edits, Ordered}
 use Rattle.engine_model.specs.Commands.{Released}
 use Rattle.engine_model.specs.SmallSteps.{CanName, GainsOrHolds, IsBacked, held_by, named, pushed, put}
+use Rattle.engine_model.specs.Frames.{EntriesKept, no_reach}
+use Rattle.engine_model.proofs.Puts.{puts_name}
+use Rattle.engine_model.proofs.TellsBirths.{name_told}
 use Rattle.engine_model.proofs.Quiet.{map_table, put_formed, put_here, put_other, put_rest, queue_rest}
 use Rattle.engine_model.proofs.Renamed.{names_gained, names_lost, names_other, name_lost, one_hung, queue_here, queue_in_range, queue_other, still, zero_dirty}
 use Rattle.engine_model.proofs.Schedule.{tells}
@@ -36,20 +37,20 @@ module _ (lay : Layout) (top : ℕ) (sound : Bool) (apart : Apart lay) (m : Mome
   name_here : cached_name lay v l ≡ p
   name_here = ap (λ x. lay.name_in x l) here ∙ can.sets.here
 
+  kept : EntriesKept lay (record no_reach { names = l ∷ [] }) w.cached v.cached
+  kept = puts_name lay apart w c l p can.in_range can.sets
+
   name_other : (j : ℕ) → j < lay.blocks → j ≢ l → cached_name lay v j ≡ cached_name lay w j
-  name_other j lt ne = elim (cases_eq (lay.map_page j) (lay.map_page l)) [
-    | inl e ↦ ap (λ x. lay.name_in (v.cached x) j) e ∙ ap (λ x. lay.name_in x j) here ∙ can.sets.other j lt ne e ∙ ap (λ x. lay.name_in (w.cached x) j) (sym e)
-    | inr off ↦ ap (λ x. lay.name_in x j) (away (lay.map_page j) off)
-  ]
+  name_other j lt ne = kept.names j lt (ne, tt)
 
   counts : (q : ℕ) → IsData lay q → cached_count lay v q ≡ cached_count lay w q
-  counts q d = ap (λ x. lay.count_in x q) (away (lay.count_page q) (λ e. apart.map_count l q can.in_range d (sym e)))
+  counts q d = kept.counts q d tt
 
   prints : (q : ℕ) → IsData lay q → cached_print lay v q ≡ cached_print lay w q
-  prints q d = ap (λ x. lay.print_in x q) (away (lay.print_page q) (λ e. apart.map_print l q can.in_range d (sym e)))
+  prints q d = kept.prints q d tt
 
   data_same : (q : ℕ) → IsData lay q → v.cached (lay.data_page q) ≡ w.cached (lay.data_page q)
-  data_same q d = away (lay.data_page q) (λ e. apart.table_data (lay.map_page l) q (map_table lay l can.in_range) d (sym e))
+  data_same q d = kept.contents q d tt
 
   rest : CacheOnly lay w v
   rest = queue_rest lay w (put (lay.map_page l) c w) (pushed known l o w.queue) (put_rest lay w (lay.map_page l) c can.dirty)
@@ -173,19 +174,7 @@ module _ (lay : Layout) (top : ℕ) (sound : Bool) (apart : Apart lay) (m : Mome
     }
 
     told : ToldBirths lay m after
-    told = record {
-      edits = (record { slot = Name l; at = lay.map_page l; from = o; to = p }) ∷ [];
-      calls = refl;
-      dirty = (can.dirty, tt);
-      leads = leads;
-    }
-      where
-        leads : (slot : Slot) → IsSlot lay slot → Leads lay slot ((record { slot = Name l; at = lay.map_page l; from = o; to = p }) ∷ []) (cached_value lay w slot) (cached_value lay v slot)
-        leads (Print q) d = ((λ e. absurd (true≢false (sym e))), (λ e. ap has_print (sym (prints q d))))
-        leads (Name j) lt = (
-          (λ h. let e : l ≡ j = eqb-true l j h in (ap lay.map_page e, sym name_here ∙ ap (cached_name lay v) e, ap (cached_name lay w) (sym e) ∙ can.was)),
-          (λ h. sym (name_other j lt (λ e. true≢false (sym (eq-eqb l j (sym e)) ∙ h)))),
-        )
+    told = name_told lay m after l o p can.was name_here refl can.dirty name_other prints
 
     pub named_keeps : EngineInvariant lay top sound
         (record { world = named (known_at lay m) (lay.map_page l) c l o m.world; array = array; calls = Change (Name l) (lay.map_page l) o p ∷ m.calls; pool = m.pool })

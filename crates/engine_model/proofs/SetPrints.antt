@@ -1,15 +1,17 @@
 -- A print is set once its edges stand, and cleared once its edge stands or where it is unborn.
-use Rattle.std.proofs.Common.{◌≡◌, ◌≢◌, ◌⊎◌, inl, inr, ◌<◌, ℕ, Bool, true, arith, refl, sym, ap, ◌∙◌, subst, List, [], ◌∷◌, Option, Some, None, eqb-true, eq-eqb, true≢false}
+use Rattle.std.proofs.Common.{◌≡◌, ◌≢◌, ◌⊎◌, inl, inr, ◌<◌, ℕ, Bool, true, arith, refl, sym, ap, ◌∙◌, subst, List, [], ◌∷◌, Option, Some, None}
 use Rattle.std.proofs.lemmas.Bool.{cases_eq}
 use Rattle.order_model.specs.World.{Layout, Possible, World, IsData}
 use Rattle.engine_model.specs.Entries.{Apart, MayPrint, cached_count, cached_name, cached_print}
 use Rattle.order_model.specs.Calls.{Change}
-use Rattle.order_model.specs.declared.Slot.TheVariants.{Name, Print}
-use Rattle.order_model.specs.declared.Slot.{Slot}
-use Rattle.engine_model.specs.Births.{IsSlot, Leads, cached_value, has_print}
+use Rattle.order_model.specs.declared.Slot.TheVariants.{Print}
+use Rattle.engine_model.specs.Births.{has_print}
 use Rattle.engine_model.specs.Invariant.{EngineInvariant, Moment, ToldBirths, known_at}
 use Rattle.engine_model.specs.Edits.{CacheOnly, ContentEdits, Edits, Ordered}
 use Rattle.engine_model.specs.SmallSteps.{CanClear, CanPrint, SetsPrint, put}
+use Rattle.engine_model.specs.Frames.{EntriesKept, no_reach}
+use Rattle.engine_model.proofs.Puts.{puts_print}
+use Rattle.engine_model.proofs.TellsBirths.{print_told}
 use Rattle.engine_model.proofs.Quiet.{print_table, put_formed, put_here, put_other, put_rest}
 use Rattle.engine_model.proofs.Schedule.{tells}
 use Rattle.engine_model.proofs.Views.{names_by, none_some, some_is}
@@ -27,21 +29,20 @@ module _ (lay : Layout) (top : ℕ) (sound : Bool) (apart : Apart lay) (m : Mome
   print_here : cached_print lay v p ≡ print
   print_here = ap (λ x. lay.print_in x p) (put_here w (lay.print_page p) c) ∙ sets.here
 
+  kept : EntriesKept lay (record no_reach { prints = p ∷ [] }) w.cached v.cached
+  kept = puts_print lay apart w c p print is sets
+
   print_other : (q : ℕ) → IsData lay q → q ≢ p → cached_print lay v q ≡ cached_print lay w q
-  print_other q d ne = elim (cases_eq (lay.print_page q) (lay.print_page p)) [
-    | inl e ↦ ap (λ x. lay.print_in (v.cached x) q) e ∙ ap (λ x. lay.print_in x q) (put_here w (lay.print_page p) c) ∙ sets.other q d ne e
-        ∙ ap (λ x. lay.print_in (w.cached x) q) (sym e)
-    | inr off ↦ ap (λ x. lay.print_in x q) (put_other w (lay.print_page p) c (lay.print_page q) off)
-  ]
+  print_other q d ne = kept.prints q d (ne, tt)
 
   names : (l : ℕ) → l < lay.blocks → cached_name lay v l ≡ cached_name lay w l
-  names l lt = ap (λ x. lay.name_in x l) (put_other w (lay.print_page p) c (lay.map_page l) (apart.map_print l p lt is))
+  names l lt = kept.names l lt tt
 
   counts : (q : ℕ) → IsData lay q → cached_count lay v q ≡ cached_count lay w q
-  counts q d = ap (λ x. lay.count_in x q) (put_other w (lay.print_page p) c (lay.count_page q) (apart.count_print q p d is))
+  counts q d = kept.counts q d tt
 
   data_same : (q : ℕ) → IsData lay q → v.cached (lay.data_page q) ≡ w.cached (lay.data_page q)
-  data_same q d = put_other w (lay.print_page p) c (lay.data_page q) (λ e. apart.table_data (lay.print_page p) q (print_table lay p is) d (sym e))
+  data_same q d = kept.contents q d tt
 
   rest : CacheOnly lay w v
   rest = put_rest lay w (lay.print_page p) c dirty
@@ -113,24 +114,7 @@ module _ (lay : Layout) (top : ℕ) (sound : Bool) (apart : Apart lay) (m : Mome
     after = record m { world = v; calls = Change (Print p) (lay.print_page p) (has_print (cached_print lay w p)) (has_print print) ∷ m.calls }
 
     told : ToldBirths lay m after
-    told = record {
-      edits = (record { slot = Print p; at = lay.print_page p; from = has_print (cached_print lay w p); to = has_print print }) ∷ [];
-      calls = refl;
-      dirty = (dirty, tt);
-      leads = leads;
-    }
-      where
-        leads : (slot : Slot) → IsSlot lay slot → Leads lay slot
-            ((record { slot = Print p; at = lay.print_page p; from = has_print (cached_print lay w p); to = has_print print }) ∷ []) (cached_value lay w slot) (cached_value lay v slot)
-        leads (Name l) lt = ((λ e. absurd (true≢false (sym e))), (λ e. sym (names l lt)))
-        leads (Print q) d = (
-          (λ h. let e : p ≡ q = eqb-true p q h in (
-            ap lay.print_page e,
-            ap has_print (sym print_here) ∙ ap (λ y. has_print (cached_print lay v y)) e,
-            ap (λ y. has_print (cached_print lay w y)) (sym e),
-          )),
-          (λ h. ap has_print (sym (print_other q d (λ e. true≢false (sym (eq-eqb p q (sym e)) ∙ h))))),
-        )
+    told = print_told lay m after p (has_print (cached_print lay w p)) (has_print print) refl (ap has_print print_here) refl dirty names print_other
 
     print_keeps : EngineInvariant lay top sound after
     print_keeps = edits_keep_all lay top sound m after k edits contents told (pool_untold lay top sound m after k (λ q. refl) counts)

@@ -20,10 +20,10 @@ count_kind : (b : ℕ) → (b ≡ 1) ⊎ (b ≡ 3) → EdgeKind printed 2 b
 count_kind b (inl e) = inl (inr (1, is_data, refl), inl (0, omega arith, e))
 count_kind b (inr e) = inl (inr (1, is_data, refl), inr (1, is_data, e))
 
-sets_count : (old : List ℕ) (n : ℕ) → SetsCount printed old (n ∷ []) 1 n
+pub sets_count : (old : List ℕ) (n : ℕ) → SetsCount printed old (n ∷ []) 1 n
 sets_count old n = record { here = refl; other = λ q d ne same. absurd (no_other q d ne); formed = refl }
 
-sets_name : (old : List ℕ) (p : ℕ) → SetsName printed old (p ∷ []) 0 p
+pub sets_name : (old : List ℕ) (p : ℕ) → SetsName printed old (p ∷ []) 0 p
 sets_name old p = record { here = refl; other = λ k lt ne same. absurd (no_zero k lt ne); formed = refl }
 
 pub can_raise : CanRaise printed 5 print_touched.world 1 (1 ∷ [])
