@@ -28,7 +28,7 @@ use Rattle.engine_model.proofs.GivenUp.{given_up_is}
 use Rattle.engine_model.proofs.Passes.{append_one, drained_twice}
 use Rattle.engine_model.proofs.Queues.{middle}
 use Rattle.engine_model.proofs.Same.{same_self}
-use Rattle.engine_model.proofs.Quiet.{count_table, print_table, put_here, put_other, some_barred, some_edge, touched_here, touched_other}
+use Rattle.engine_model.proofs.Quiet.{count_table, data_off, print_table, put_here, put_other, some_barred, some_edge, touched_here, touched_other}
 use Rattle.engine_model.specs.SmallPass.{Applies, Clears, ClearsLast, ClearsUnborn, GivenUp, GivesUp, NothingToClear, SmallPass, StaysThere, map_edge, readied}
 use Rattle.engine_model.proofs.AppliedFrames.{clears_barred, clears_cached, clears_dirty, clears_live, clears_none, clears_print, edge_by, edge_cases, ready_cached, ready_live}
 use Rattle.engine_model.proofs.PassKeeps.{applies_keeps, no_leaves, out_keeps}
@@ -239,7 +239,7 @@ module _ (lay : Layout) (top : ℕ) (sound : Bool) (apart : Apart lay) (m n : Mo
   }
 
   off_tables : (q : ℕ) → IsData lay q → (lay.data_page q ≢ K) × (lay.data_page q ≢ F)
-  off_tables q d = ((λ e. apart.table_data K q (count_table lay r.page range.1) d (sym e)), (λ e. apart.table_data F q (print_table lay r.page range.1) d (sym e)))
+  off_tables q d = (data_off lay K q apart (count_table lay r.page range.1) d, data_off lay F q apart (print_table lay r.page range.1) d)
 
   data_kept : DataKept lay m.world out.world
   data_kept = record {

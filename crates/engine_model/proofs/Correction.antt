@@ -1,5 +1,5 @@
 -- The small steps of a correction are the whole one, over a drained state, which they leave drained.
-use Rattle.std.proofs.Common.{◌≡◌, ◌≢◌, ◌⊎◌, inl, inr, ◌<◌, ℕ, Bool, true, false, arith, refl, sym, ap, ◌∙◌, subst, List, Some, None, true≢false, eqb, eqb-true}
+use Rattle.std.proofs.Common.{◌≡◌, ◌⊎◌, inl, inr, ◌<◌, ℕ, Bool, true, false, arith, refl, sym, ap, ◌∙◌, subst, List, Some, None, true≢false, eqb, eqb-true}
 use Rattle.std.proofs.lemmas.Bool.{false_from_ne_true, or_left, or_right}
 use Rattle.order_model.specs.Paths.{Closes}
 use Rattle.order_model.specs.Pool.{after_zeroed}
@@ -18,7 +18,7 @@ use Rattle.engine_model.proofs.Counting.{count_some}
 use Rattle.engine_model.proofs.Frames.{counted_frame, edge_here, frame_rest, frame_same, frame_then, lowered_told, ordered_frame, printed_frame, touched_frame}
 use Rattle.engine_model.proofs.Graphs.{way_ends}
 use Rattle.engine_model.proofs.Lowered.{recounted_keeps}
-use Rattle.engine_model.proofs.Quiet.{count_table, ordered_keeps, print_table, put_here, touched_here, touched_keeps, touched_other}
+use Rattle.engine_model.proofs.Quiet.{count_table, data_off, ordered_keeps, print_table, put_here, touched_here, touched_keeps, touched_other}
 use Rattle.engine_model.proofs.SetPrints.{cleared_keeps, printed_keeps}
 use Rattle.engine_model.proofs.Views.{names_by, none_some}
 
@@ -237,7 +237,7 @@ module _ (lay : Layout) (top : ℕ) (sound : Bool) (apart : Apart lay) (m : Mome
         print_here = print_here print;
       };
       data_kept = record {
-        pages = λ q d. (fixed_frame.entries.contents q d tt, fixed_frame.marks.dirty_new (lay.data_page q) (off_count q d, (off_print q d, (off_count q d, tt))));
+        pages = λ q d. (fixed_frame.entries.contents q d tt, fixed_frame.marks.dirty_new (lay.data_page q) (data_off lay K q apart (count_table lay p is) d, (data_off lay F q apart (print_table lay p is) d, (data_off lay K q apart (count_table lay p is) d, tt))));
         well_formed = fixed_keeps.contents.well_formed.cached;
         first_page = (fixed_keeps.contents.first_page.clean, fixed_frame.marks.clean 0 fixed_keeps.contents.first_page.clean);
       };
@@ -245,9 +245,3 @@ module _ (lay : Layout) (top : ℕ) (sound : Bool) (apart : Apart lay) (m : Mome
       births = fixed_frame.births;
       pool = told_zero count;
     }
-      where
-        off_count : (q : ℕ) → IsData lay q → lay.data_page q ≢ K
-        off_count q d e = apart.table_data K q (count_table lay p is) d (sym e)
-
-        off_print : (q : ℕ) → IsData lay q → lay.data_page q ≢ F
-        off_print q d e = apart.table_data F q (print_table lay p is) d (sym e)

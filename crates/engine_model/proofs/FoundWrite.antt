@@ -11,7 +11,7 @@ use Rattle.engine_model.specs.SmallSteps.{touched}
 use Rattle.engine_model.proofs.Frames.{counted_frame, frame_rest, frame_then, told_same, touched_frame}
 use Rattle.engine_model.proofs.PageNamed.{name_released, named_page_keeps, names_page, page_name_frame}
 use Rattle.engine_model.proofs.Puts.{sets_name_on}
-use Rattle.engine_model.proofs.Quiet.{count_table, map_table, put_here, raised_keeps, touched_here, touched_keeps}
+use Rattle.engine_model.proofs.Quiet.{count_table, data_off, map_table, put_here, raised_keeps, touched_here, touched_keeps}
 use Rattle.engine_model.proofs.Views.{names_by}
 
 module _ (lay : Layout) (top : ℕ) (sound : Bool) (apart : Apart lay) (m : Moment) (k : EngineInvariant lay top sound m) (l o p : ℕ) (content count name : List ℕ)
@@ -76,10 +76,7 @@ module _ (lay : Layout) (top : ℕ) (sound : Bool) (apart : Apart lay) (m : Mome
   barriers a b (inr e) = absurd e
 
   dirty_same : (q : ℕ) → IsData lay q → done.world.dirty (lay.data_page q) ≡ m.world.dirty (lay.data_page q)
-  dirty_same q d = found_frame.marks.dirty_new (lay.data_page q) (
-    (λ e. apart.table_data (lay.count_page p) q (count_table lay p x.is_data) d (sym e)),
-    ((λ e. apart.table_data (lay.map_page l) q (map_table lay l x.in_range) d (sym e)), tt),
-  )
+  dirty_same q d = found_frame.marks.dirty_new (lay.data_page q) (data_off lay _ q apart (count_table lay p x.is_data) d, (data_off lay _ q apart (map_table lay l x.in_range) d, tt))
 
   pub found_writes : Writes lay top m done l o p content
   found_writes = record {

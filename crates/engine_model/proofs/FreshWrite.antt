@@ -1,6 +1,6 @@
 -- The small steps of a write to a fresh page are the whole one.
-use Rattle.std.proofs.Common.{◌≡◌, ◌≢◌, inl, inr, ◌+◌, ◌<◌, ℕ, Bool, arith, refl, sym, ap, ◌∙◌, subst, List}
-use Rattle.order_model.specs.World.{IsData, Layout}
+use Rattle.std.proofs.Common.{◌≡◌, inl, inr, ◌+◌, ◌<◌, ℕ, Bool, refl, sym, ap, ◌∙◌, subst, List}
+use Rattle.order_model.specs.World.{Layout}
 use Rattle.engine_model.specs.Commands.{Gains, Mandatory}
 use Rattle.engine_model.specs.Edits.{Ordered}
 use Rattle.engine_model.specs.Entries.{Apart}
@@ -9,14 +9,11 @@ use Rattle.engine_model.specs.Invariant.{EngineInvariant, Moment, known_at}
 use Rattle.engine_model.specs.Known.{Free}
 use Rattle.engine_model.specs.SmallCommands.{CanNamePage, CanWriteFresh, FillsPage, NamesPage, Writes, fill_reach, page_name_reach, with_fresh_write, with_page_filled}
 use Rattle.engine_model.specs.SmallSteps.{pushed}
-use Rattle.engine_model.proofs.WriteContents.{name_counted}
+use Rattle.engine_model.proofs.FilledNamed as named
 use Rattle.engine_model.proofs.Frames.{frame_rest, frame_then}
-use Rattle.engine_model.proofs.PageFilled.{filled_frame, filled_keeps, fills_page}
+use Rattle.engine_model.proofs.PageFilled.{filled_keeps}
 use Rattle.engine_model.proofs.PageNamed.{name_released, named_page_keeps, names_page, page_name_frame}
-use Rattle.engine_model.proofs.Puts.{sets_name_on}
-use Rattle.engine_model.proofs.Quiet.{count_table, map_table, print_table}
-use Rattle.engine_model.proofs.Schedule.{tells}
-use Rattle.engine_model.proofs.Ways.{open_elsewhere}
+use Rattle.engine_model.proofs.Quiet.{count_table, data_off, map_table, print_table}
 
 module _ (lay : Layout) (top : ℕ) (sound : Bool) (apart : Apart lay) (m : Moment) (k : EngineInvariant lay top sound m) (l o p : ℕ) (content count print name : List ℕ)
     (x : CanWriteFresh lay top m l o p content count print name) (array : ℕ → List (List ℕ)) (gain : Gains m.array array l content) where
@@ -27,35 +24,19 @@ module _ (lay : Layout) (top : ℕ) (sound : Bool) (apart : Apart lay) (m : Mome
   done = with_fresh_write lay l o p content count print name array m
 
   fill : Frame lay (fill_reach lay p) m filled
-  fill = filled_frame lay top sound apart m k p content count print x.fills
+  fill = named.fill lay top sound apart m k l o p content count print name x
 
   fills : FillsPage lay filled p content
-  fills = fills_page lay top sound apart m k p content count print x.fills
+  fills = named.fills lay top sound apart m k l o p content count print name x
 
   free : Free lay m.world p
-  free = (tells lay top sound m k).free p x.fills.is_data x.fills.free
-
-  into_print : (a b : ℕ) → IsEdgeOf a b (fill_reach lay p).live → b ≡ lay.print_page p
-  into_print a b (inl e) = e.1
-  into_print a b (inr (inl e)) = e.1
-  into_print a b (inr (inr e)) = absurd e
+  free = named.free lay top sound apart m k l o p content count print name x
 
   can : CanNamePage lay filled.world l o p name
-  can = record {
-    in_range = x.in_range;
-    was = fill.entries.names l x.in_range tt ∙ x.was;
-    none_or_data = x.none_or_data;
-    is_data = x.fills.is_data;
-    other = λ e. let pos = name_counted lay top m.world k.counts l p x.in_range x.fills.is_data (x.was ∙ sym e) in let none = free.cached in omega arith;
-    sets = sets_name_on lay (fill_reach lay p) m.world.cached filled.world.cached fill.entries refl name l p x.sets;
-    dirty = fills.count_dirty;
-    spare = fills.spare;
-    opens = open_elsewhere m.world.live filled.world.live (lay.print_page p) (λ a b h. elim (fill.marks.live_new a b h) [ inl was ↦ inl was | inr new ↦ inr (into_print a b new.0) ])
-        (lay.count_page p) (lay.map_page l) x.fills.opens x.opens;
-  }
+  can = named.can lay top sound apart m k l o p content count print name x
 
-  named : NamesPage lay filled done l o p
-  named = names_page lay top sound apart filled (filled_keeps lay top sound apart m k p content count print x.fills) l o p name can array
+  names : NamesPage lay filled done l o p
+  names = names_page lay top sound apart filled (filled_keeps lay top sound apart m k p content count print x.fills) l o p name can array
 
   pub fresh_keeps : EngineInvariant lay top sound done
   fresh_keeps = named_page_keeps lay top sound apart filled (filled_keeps lay top sound apart m k p content count print x.fills) l o p name can array
@@ -80,20 +61,10 @@ module _ (lay : Layout) (top : ℕ) (sound : Bool) (apart : Apart lay) (m : Mome
   barriers a b (inr (inr e)) = absurd e
 
   queue : done.world.queue ≡ pushed (known_at lay m) l o m.world.queue
-  queue = named.queue ∙ ap (pushed (known_at lay m) l o) (fill.queue refl)
-
-  off_tables : (q : ℕ) → IsData lay q → (lay.data_page q ≢ lay.count_page p) × (lay.data_page q ≢ lay.print_page p) × (lay.data_page q ≢ lay.map_page l)
-  off_tables q d = (
-    (λ e. apart.table_data (lay.count_page p) q (count_table lay p x.fills.is_data) d (sym e)),
-    (λ e. apart.table_data (lay.print_page p) q (print_table lay p x.fills.is_data) d (sym e)),
-    (λ e. apart.table_data (lay.map_page l) q (map_table lay l x.in_range) d (sym e)),
-  )
+  queue = names.queue ∙ ap (pushed (known_at lay m) l o) (fill.queue refl)
 
   print_first : Ordered done.world (lay.data_page p) (lay.print_page p)
-  print_first = record {
-    dirty = λ h. last.marks.live_kept _ _ (fills.data_first.dirty fills.data_dirty);
-    hung = λ h. inl (last.marks.live_kept _ _ (fills.data_first.dirty fills.data_dirty));
-  }
+  print_first = let edge = last.marks.live_kept _ _ (fills.data_first.dirty fills.data_dirty) in record { dirty = λ h. edge; hung = λ h. inl edge }
 
   pub fresh_writes : Writes lay top m done l o p content
   fresh_writes = record {
@@ -104,25 +75,31 @@ module _ (lay : Layout) (top : ℕ) (sound : Bool) (apart : Apart lay) (m : Mome
         barred = λ a b h. elim (fresh_frame.marks.barred_new a b h) [ inl was ↦ inl was | inr new ↦ inr (barriers a b new.0) ];
       };
       no_cycle = x.opens;
-      released = name_released lay m done l o x.in_range x.was x.none_or_data (λ j lt ne. fresh_frame.entries.names j lt (ne, tt)) named.dirty queue;
+      released = name_released lay m done l o x.in_range x.was x.none_or_data (λ j lt ne. fresh_frame.entries.names j lt (ne, tt)) names.dirty queue;
       is_data = x.fills.is_data;
       other = can.other;
-      name = named.name;
+      name = names.name;
       below_top = subst (λ n. n < top) (sym free.cached) x.fills.below_top;
       count_here = last.entries.counts p x.fills.is_data tt ∙ fills.counted ∙ ap (λ n. n + 1) (sym free.cached);
       count_other = λ q d ne. fresh_frame.entries.counts q d (ne, tt);
       print_other = λ q d ne. fresh_frame.entries.prints q d (ne, tt);
       print_here = inr (lay.finger content, record { was_free = x.fills.free; first_count = last.marks.live_kept _ _ fills.count_first });
-      counted = named.count_first;
+      counted = names.count_first;
     };
     page = record {
-      data_other = λ q d ne. let off = off_tables q d in (
+      data_other = λ q d ne. (
         fresh_frame.entries.contents q d (ne, tt),
-        fresh_frame.marks.dirty_new (lay.data_page q) (apart.data_data q p d x.fills.is_data ne, (off.0, (off.1, (off.2, tt)))),
+        fresh_frame.marks.dirty_new (lay.data_page q) (
+          apart.data_data q p d x.fills.is_data ne,
+          (
+            data_off lay _ q apart (count_table lay p x.fills.is_data) d,
+            (data_off lay _ q apart (print_table lay p x.fills.is_data) d, (data_off lay _ q apart (map_table lay l x.in_range) d, tt)),
+          ),
+        ),
       );
       data_here = last.entries.contents p x.fills.is_data tt ∙ fills.holds;
       chosen = inl (x.fills.free, last.marks.dirty_kept _ fills.data_dirty, last.entries.prints p x.fills.is_data tt ∙ fills.printed, print_first);
-      ordered = named.data_first;
+      ordered = names.data_first;
       well_formed = fresh_keeps.contents.well_formed.cached;
       first_page = (fresh_keeps.contents.first_page.clean, fresh_frame.marks.clean 0 fresh_keeps.contents.first_page.clean);
     };

@@ -73,6 +73,7 @@ pub mod CleanPages
 pub mod PageNamed
 pub mod SmallDiscard
 pub mod PageFilled
+pub mod FilledNamed
 pub mod FreshWrite
 pub mod FoundWrite
 pub mod Correction

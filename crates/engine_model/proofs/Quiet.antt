@@ -51,6 +51,9 @@ count_table lay p d = inr (p, d, inl refl)
 pub print_table : (lay : Layout) (p : ℕ) → IsData lay p → IsTable lay (lay.print_page p)
 print_table lay p d = inr (p, d, inr refl)
 
+pub data_off : (lay : Layout) (page q : ℕ) → Apart lay → IsTable lay page → IsData lay q → lay.data_page q ≢ page
+data_off lay page q apart t d e = apart.table_data page q t d (sym e)
+
 -- the moves, at their page and at another
 pub touched_here : (w : World) (page : ℕ) → (touched page w).dirty page ≡ true
 touched_here w page = or_right (w.dirty page) (eqb page page) (eq-eqb page page refl)

@@ -1,5 +1,5 @@
 -- The small steps of a discard are the whole one.
-use Rattle.std.proofs.Common.{inl, inr, ℕ, Bool, arith, refl, sym, ap, ◌∙◌, List}
+use Rattle.std.proofs.Common.{inl, inr, ℕ, Bool, arith, refl, ap, ◌∙◌, List}
 use Rattle.order_model.specs.World.{Layout}
 use Rattle.engine_model.specs.Commands.{Gains}
 use Rattle.engine_model.specs.Entries.{Apart}
@@ -10,7 +10,7 @@ use Rattle.engine_model.specs.SmallRuns.{SetName, SmallStep, Touch, in_state}
 use Rattle.engine_model.specs.SmallSteps.{touched}
 use Rattle.engine_model.proofs.Frames.{frame_rest, frame_then, step_frame}
 use Rattle.engine_model.proofs.PageNamed.{name_released}
-use Rattle.engine_model.proofs.Quiet.{map_table, put_here, touched_here}
+use Rattle.engine_model.proofs.Quiet.{data_off, map_table, put_here, touched_here}
 use Rattle.engine_model.proofs.SmallSteps.{small_step_keeps}
 
 module _ (lay : Layout) (top : ℕ) (sound : Bool) (apart : Apart lay) (m : Moment) (k : EngineInvariant lay top sound m) (l o : ℕ) (c : List ℕ) (x : CanDiscard lay m.world l o c)
@@ -56,7 +56,7 @@ module _ (lay : Layout) (top : ℕ) (sound : Bool) (apart : Apart lay) (m : Mome
       prints = λ q d. discard_frame.entries.prints q d tt;
     };
     data_kept = record {
-      pages = λ q d. (discard_frame.entries.contents q d tt, discard_frame.marks.dirty_new (lay.data_page q) ((λ e. apart.table_data (lay.map_page l) q (map_table lay l x.in_range) d (sym e)), tt));
+      pages = λ q d. (discard_frame.entries.contents q d tt, discard_frame.marks.dirty_new (lay.data_page q) (data_off lay _ q apart (map_table lay l x.in_range) d, tt));
       well_formed = discard_keeps.contents.well_formed.cached;
       first_page = (discard_keeps.contents.first_page.clean, discard_frame.marks.clean 0 discard_keeps.contents.first_page.clean);
     };

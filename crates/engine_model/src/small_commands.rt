@@ -47,6 +47,14 @@ pub fn fill_page()
         → EngineInvariant lay top sound (with_page_filled lay p content count print m) }
 {}
 
+/// A page that was filled for a block may be named by it: what that asks holds of it.
+pub fn filled_page_is_nameable()
+    ensures nameable { (lay : Layout) (top : ℕ) (sound : Bool) → Apart lay → (m : Moment)
+        → EngineInvariant lay top sound m → (l o p : ℕ) (content count print name : List ℕ)
+        → CanWriteFresh lay top m l o p content count print name
+        → CanNamePage lay (with_page_filled lay p content count print m).world l o p name }
+{}
+
 /// A block takes the name of a page whose count has one to spare, and the release of the old name is pushed. Its list
 /// gains the content of the page, or has it as its last.
 pub fn name_page()
