@@ -1,16 +1,17 @@
--- A page that was filled may be named by the block that the write is of.
+-- A page that was filled may be named by the block that the write is of, and the edges of both are the mandatory ones.
 use Rattle.std.proofs.Common.{◌≡◌, inl, inr, ℕ, Bool, arith, refl, sym, ◌∙◌, List}
 use Rattle.order_model.specs.World.{Layout}
 use Rattle.engine_model.specs.Entries.{Apart}
-use Rattle.engine_model.specs.Frames.{Frame, IsEdgeOf}
+use Rattle.engine_model.specs.Frames.{Frame, IsEdgeOf, both}
 use Rattle.engine_model.specs.Invariant.{EngineInvariant, Moment}
 use Rattle.engine_model.specs.Known.{Free}
-use Rattle.engine_model.specs.SmallCommands.{CanNamePage, CanWriteFresh, FillsPage, fill_reach, with_page_filled}
+use Rattle.engine_model.specs.SmallCommands.{CanNamePage, CanWriteFresh, FillsPage, fill_reach, page_name_reach, with_page_filled}
 use Rattle.engine_model.proofs.WriteContents.{name_counted}
 use Rattle.engine_model.proofs.PageFilled.{filled_frame, fills_page}
 use Rattle.engine_model.proofs.Puts.{sets_name_on}
 use Rattle.engine_model.proofs.Schedule.{tells}
 use Rattle.engine_model.proofs.Ways.{open_elsewhere}
+use Rattle.engine_model.specs.Commands.{Mandatory}
 
 module _ (lay : Layout) (top : ℕ) (sound : Bool) (apart : Apart lay) (m : Moment) (k : EngineInvariant lay top sound m) (l o p : ℕ) (content count print name : List ℕ)
     (x : CanWriteFresh lay top m l o p content count print name) where
@@ -44,3 +45,16 @@ module _ (lay : Layout) (top : ℕ) (sound : Bool) (apart : Apart lay) (m : Mome
     opens = open_elsewhere m.world.live filled.world.live (lay.print_page p) (λ a b h. elim (fill.marks.live_new a b h) [ inl was ↦ inl was | inr new ↦ inr (into_print a b new.0) ])
         (lay.count_page p) (lay.map_page l) x.fills.opens x.opens;
   }
+
+  -- the edges of a write to a fresh page are the mandatory ones
+  pub edges : (a b : ℕ) → IsEdgeOf a b (both (fill_reach lay p) (page_name_reach lay l p)).live → Mandatory lay m.world l p a b
+  edges a b (inl e) = (inr e.0, inr (e.1, x.fills.opens))
+  edges a b (inr (inl e)) = (inl e.0, inr (e.1, x.fills.opens))
+  edges a b (inr (inr (inl e))) = (inr e.0, inl e.1)
+  edges a b (inr (inr (inr (inl e)))) = (inl e.0, inl e.1)
+  edges a b (inr (inr (inr (inr e)))) = absurd e
+
+  pub barriers : (a b : ℕ) → IsEdgeOf a b (both (fill_reach lay p) (page_name_reach lay l p)).barred → Mandatory lay m.world l p a b
+  barriers a b (inl e) = (inl e.0, inr (e.1, x.fills.opens))
+  barriers a b (inr (inl e)) = (inl e.0, inl e.1)
+  barriers a b (inr (inr e)) = absurd e

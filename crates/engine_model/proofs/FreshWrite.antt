@@ -1,10 +1,10 @@
 -- The small steps of a write to a fresh page are the whole one.
 use Rattle.std.proofs.Common.{◌≡◌, inl, inr, ◌+◌, ◌<◌, ℕ, Bool, refl, sym, ap, ◌∙◌, subst, List}
 use Rattle.order_model.specs.World.{Layout}
-use Rattle.engine_model.specs.Commands.{Gains, Mandatory}
+use Rattle.engine_model.specs.Commands.{Gains}
 use Rattle.engine_model.specs.Edits.{Ordered}
 use Rattle.engine_model.specs.Entries.{Apart}
-use Rattle.engine_model.specs.Frames.{Frame, IsEdgeOf, both}
+use Rattle.engine_model.specs.Frames.{Frame, both}
 use Rattle.engine_model.specs.Invariant.{EngineInvariant, Moment, known_at}
 use Rattle.engine_model.specs.Known.{Free}
 use Rattle.engine_model.specs.SmallCommands.{CanNamePage, CanWriteFresh, FillsPage, NamesPage, Writes, fill_reach, page_name_reach, with_fresh_write, with_page_filled}
@@ -48,18 +48,6 @@ module _ (lay : Layout) (top : ℕ) (sound : Bool) (apart : Apart lay) (m : Mome
   pub fresh_frame : Frame lay (both (fill_reach lay p) (page_name_reach lay l p)) m done
   fresh_frame = frame_then lay (fill_reach lay p) (page_name_reach lay l p) m filled done fill last
 
-  edges : (a b : ℕ) → IsEdgeOf a b (both (fill_reach lay p) (page_name_reach lay l p)).live → Mandatory lay m.world l p a b
-  edges a b (inl e) = (inr e.0, inr (e.1, x.fills.opens))
-  edges a b (inr (inl e)) = (inl e.0, inr (e.1, x.fills.opens))
-  edges a b (inr (inr (inl e))) = (inr e.0, inl e.1)
-  edges a b (inr (inr (inr (inl e)))) = (inl e.0, inl e.1)
-  edges a b (inr (inr (inr (inr e)))) = absurd e
-
-  barriers : (a b : ℕ) → IsEdgeOf a b (both (fill_reach lay p) (page_name_reach lay l p)).barred → Mandatory lay m.world l p a b
-  barriers a b (inl e) = (inl e.0, inr (e.1, x.fills.opens))
-  barriers a b (inr (inl e)) = (inl e.0, inl e.1)
-  barriers a b (inr (inr e)) = absurd e
-
   queue : done.world.queue ≡ pushed (known_at lay m) l o m.world.queue
   queue = names.queue ∙ ap (pushed (known_at lay m) l o) (fill.queue refl)
 
@@ -71,8 +59,8 @@ module _ (lay : Layout) (top : ℕ) (sound : Bool) (apart : Apart lay) (m : Mome
     renamed = record {
       rest = frame_rest lay (both (fill_reach lay p) (page_name_reach lay l p)) m.world done.world fresh_frame.marks;
       edges = record {
-        live = λ a b h. elim (fresh_frame.marks.live_new a b h) [ inl was ↦ inl was | inr new ↦ inr (edges a b new.0) ];
-        barred = λ a b h. elim (fresh_frame.marks.barred_new a b h) [ inl was ↦ inl was | inr new ↦ inr (barriers a b new.0) ];
+        live = λ a b h. elim (fresh_frame.marks.live_new a b h) [ inl was ↦ inl was | inr new ↦ inr (named.edges lay top sound apart m k l o p content count print name x a b new.0) ];
+        barred = λ a b h. elim (fresh_frame.marks.barred_new a b h) [ inl was ↦ inl was | inr new ↦ inr (named.barriers lay top sound apart m k l o p content count print name x a b new.0) ];
       };
       no_cycle = x.opens;
       released = name_released lay m done l o x.in_range x.was x.none_or_data (λ j lt ne. fresh_frame.entries.names j lt (ne, tt)) names.dirty queue;

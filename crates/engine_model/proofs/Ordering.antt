@@ -2,7 +2,7 @@
 use Rattle.std.proofs.Common.{Bool, ◌≡◌, ◌≢◌, ◌⊎◌, inl, inr, ◌<◌, ℕ, true, false, ◌&&◌, cond, arith, refl, sym, ap, ◌∙◌, subst, List, [], ◌∷◌, ◌++◌, true≢false, eqb, ne_eqb, eq-eqb, map}
 use Rattle.std.proofs.lemmas.Bool.{cases_eq, cases_Bool, or_left, or_right, or_cases, and_parts, and_from, not_from_false, false_from_ne_true}
 use Rattle.order_model.specs.World.{Layout, Queued, Release, World, IsData}
-use Rattle.engine_model.specs.DeviceSteps.{barrier_made, page_taken, page_written}
+use Rattle.engine_model.specs.DeviceSteps.{barrier_made, fixed_release, page_taken, page_written, written_release}
 use Rattle.engine_model.specs.Entries.{Apart, EdgeKind, IsCount, IsPrint}
 use Rattle.engine_model.specs.Invariant.{Moment, known_at}
 use Rattle.engine_model.specs.Known.{Known}
@@ -15,10 +15,11 @@ use Rattle.engine_model.proofs.NewEdges.{none_to_data}
 use Rattle.engine_model.proofs.Passes.{append_one, member_queued}
 use Rattle.engine_model.proofs.Queues.{middle, push_back, was_in}
 use Rattle.engine_model.proofs.Quiet.{map_table, some_barred, some_edge, touched_here}
-use Rattle.engine_model.specs.AnyDevice.{FewerQueued, IsOrdered}
+use Rattle.engine_model.specs.AnyDevice.{AnyFixed, AnyRefused, AnyRun, AnyStep, AnyTaken, AnyWritten, FewerQueued, IsOrdered}
 use Rattle.engine_model.specs.SmallPass.{Applies, Clears, ClearsLast, ClearsUnborn, GivenUp, InRange, Leaves, NothingToClear, SmallPass, StaysThere, readied}
 use Rattle.engine_model.proofs.AppliedFrames.{clears_queue, edge_by, edge_cases}
 use Rattle.engine_model.proofs.StaysBlocked.{out_queue}
+use Rattle.engine_model.specs.Schedule.{NoNode, last_of}
 
 abbrev moved : (Release → ℕ) → Release → Release
 moved f r = record r { stage = f r }
@@ -286,3 +287,32 @@ module _ (lay : Layout) (apart : Apart lay) where
   clean_pass m n k clean p = pass_empties m n m.world.queue (in_range lay m.world k) refl
       (λ r is z. true≢false (sym (k.zero_dirty r.block r.page (subst (λ s. Queued m.world.queue r.block r.page s) z (member_queued r m.world.queue is))) ∙ clean _))
       (λ a b h. absurd (true≢false (sym (k.live_before a b h) ∙ clean a))) p
+
+-- a drain
+module _ (lay : Layout) where
+  step_order : (m n : Moment) → IsOrdered lay m.world → AnyStep lay m n → IsOrdered lay n.world
+  step_order m n k (AnyWritten page e) = subst (λ z. IsOrdered lay z.world) (sym e) (write_order lay m.world k page)
+  step_order m n k (AnyTaken page e) = subst (λ z. IsOrdered lay z.world) (sym e) (take_order lay m.world k page)
+  step_order m n k (AnyRefused page e) = subst (λ z. IsOrdered lay z.world) (sym e) k
+  step_order m n k (AnyFixed e) = subst (λ z. IsOrdered lay z.world) (sym e) (barrier_order lay m.world k)
+
+  pub run_order : (m : Moment) (ns : List Moment) → IsOrdered lay m.world → AnyRun lay m ns → IsOrdered lay (last_of m ns).world
+  run_order m [] k r = k
+  run_order m (n ∷ ns) k r = run_order n ns (step_order m n k r.0) r.1
+
+  step_empty : (m n : Moment) → m.world.queue ≡ [] → AnyStep lay m n → n.world.queue ≡ []
+  step_empty m n none (AnyWritten page e) = ap (λ z. z.world.queue) e ∙ ap (map (written_release lay page)) none
+  step_empty m n none (AnyTaken page e) = ap (λ z. z.world.queue) e ∙ none
+  step_empty m n none (AnyRefused page e) = ap (λ z. z.world.queue) e ∙ none
+  step_empty m n none (AnyFixed e) = ap (λ z. z.world.queue) e ∙ ap (map fixed_release) none
+
+  run_empty : (m : Moment) (ns : List Moment) → m.world.queue ≡ [] → AnyRun lay m ns → (last_of m ns).world.queue ≡ []
+  run_empty m [] none r = none
+  run_empty m (n ∷ ns) none r = run_empty n ns (step_empty m n none r.0) r.1
+
+  pub any_drained : Apart lay → (m n o : Moment) (ns : List Moment) → IsOrdered lay m.world → ((a : ℕ) → m.world.dirty a ≡ false) → SmallPass lay m [] m.world.queue n → AnyRun lay n ns
+      → NoNode (last_of n ns) → SmallPass lay (last_of n ns) [] (last_of n ns).world.queue o → NoNode o × (o.world.queue ≡ [])
+  any_drained apart m n o ns k clean first run done second =
+      let none = run_empty n ns (clean_pass lay apart m n k clean first) run in
+      let same : o ≡ last_of n ns = subst (λ rs. SmallPass lay (last_of n ns) [] rs o) none second in
+      ((λ a. (ap (λ y. y.world.dirty a) same ∙ (done a).0, ap (λ y. y.world.hung a) same ∙ (done a).1)), ap (λ y. y.world.queue) same ∙ none)

@@ -1,6 +1,8 @@
 -- What holds of marks, edges and queue on every device, honest or not.
-use Rattle.std.specs.Prelude.{◌≡◌, ◌<◌, ℕ, List, true}
+use Rattle.std.specs.Prelude.{◌≡◌, ◌<◌, ℕ, List, [], ◌∷◌, true}
 use Rattle.order_model.specs.World.{Layout, Queued, Release, World, IsData}
+use Rattle.engine_model.specs.Invariant.{Moment}
+use Rattle.engine_model.specs.SmallRuns.{with_barrier, with_refused, with_taken, with_written}
 use Rattle.engine_model.specs.Counts.{EdgeKinds}
 
 pub record IsOrdered (lay : Layout) (w : World) : Type 0 where
@@ -15,3 +17,14 @@ pub record IsOrdered (lay : Layout) (w : World) : Type 0 where
 -- each of these releases is one of those
 abbrev pub FewerQueued : List Release → List Release → Type 0
 FewerQueued less rs = (l p stage : ℕ) → Queued less l p stage → Queued rs l p stage
+
+-- a step of the device, whether it keeps its word or not: a write that is done, taken or refused, or a barrier
+pub data AnyStep (lay : Layout) (m n : Moment) : Type 0 where
+  AnyWritten : (page : ℕ) → n ≡ with_written lay page m → AnyStep lay m n
+  AnyTaken : (page : ℕ) → n ≡ with_taken lay page m → AnyStep lay m n
+  AnyRefused : (page : ℕ) → n ≡ with_refused lay page m → AnyStep lay m n
+  AnyFixed : n ≡ with_barrier m → AnyStep lay m n
+
+abbrev pub AnyRun : Layout → Moment → List Moment → Type 0
+AnyRun lay m [] = Unit {0}
+AnyRun lay m (n ∷ ns) = AnyStep lay m n × AnyRun lay n ns

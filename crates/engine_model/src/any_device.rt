@@ -8,7 +8,8 @@ ghost use Rattle.engine_model.specs.Invariant.{Moment};
 ghost use Rattle.engine_model.specs.Known.{Known};
 ghost use Rattle.engine_model.specs.Pass.{AllBlocked};
 ghost use Rattle.engine_model.specs.SmallSteps.{given_up, lowered, named, ordered, ordered_by_barrier, placed, put, touched};
-ghost use Rattle.engine_model.specs.AnyDevice.{FewerQueued, IsOrdered};
+ghost use Rattle.engine_model.specs.AnyDevice.{AnyRun, FewerQueued, IsOrdered};
+ghost use Rattle.engine_model.specs.Schedule.{NoNode, last_of};
 ghost use Rattle.engine_model.specs.SmallPass.{InRange, KeepsOrder, SmallPass};
 
 /// Each step keeps the order. What a content says is asked of none.
@@ -46,4 +47,15 @@ pub fn pass_on_any_device()
     ensures ranged { (lay : Layout) (w : World) → IsOrdered lay w → InRange lay w.queue }
     ensures none_to_data { (lay : Layout) → Apart lay → (w : World) (a p : ℕ) → IsOrdered lay w → IsData lay p
         → w.live a (lay.data_page p) ≡ false }
+{}
+
+/// So a drain ends on every device: steps of the device keep the order, whatever it does with what it is given, and where
+/// every page is settled at the end of each of two rounds no node and no release is left.
+pub fn drain_on_any_device()
+    ensures kept { (lay : Layout) (m : Moment) (ns : List Moment) → IsOrdered lay m.world → AnyRun lay m ns
+        → IsOrdered lay (last_of m ns).world }
+    ensures drained { (lay : Layout) → Apart lay → (m n o : Moment) (ns : List Moment) → IsOrdered lay m.world
+        → ((a : ℕ) → m.world.dirty a ≡ false) → SmallPass lay m [] m.world.queue n → AnyRun lay n ns
+        → NoNode (last_of n ns) → SmallPass lay (last_of n ns) [] (last_of n ns).world.queue o
+        → NoNode o × (o.world.queue ≡ []) }
 {}
