@@ -1,7 +1,7 @@
 -- How many pages are dirty, and how many are nodes, after each call of a graph; and the exact lists of a graph that a page entered.
-use Rattle.std.proofs.Common.{◌≡◌, ◌⊎◌, inl, inr, ◌+◌, ◌-◌, ◌<◌, ℕ, Bool, true, false, not, ◌&&◌, ◌||◌, cond, filter, length, List, [], ◌∷◌, nat_lt, eqb, eqb-true, eq-eqb, refl, sym, ◌∙◌, ap, subst, arith}
+use Rattle.std.proofs.Common.{◌≡◌, ◌⊎◌, inl, inr, ◌+◌, ◌-◌, ◌<◌, ℕ, Bool, true, false, not, ◌&&◌, ◌||◌, cond, length, List, [], ◌∷◌, nat_lt, eqb, eqb-true, eq-eqb, refl, sym, ◌∙◌, ap, arith}
 use Rattle.std.specs.Prelude.{if◌then◌else◌}
-use Rattle.std.proofs.lemmas.Bool.{and_from, cases_Bool, cases_eq, false_from_ne_true, not_from_false, or_cases, or_from, or_left, or_right, true≢false}
+use Rattle.std.proofs.lemmas.Bool.{and_from, cases_Bool, cases_eq, false_from_ne_true, not_from_false, or_cases, or_left, true≢false}
 use Rattle.std.proofs.lemmas.Bool.Decides.{nat_tests}
 use Rattle.dep_graph.specs.Kept.{hung_alone}
 use Rattle.order_model.specs.Edges.{Edge}

@@ -1,5 +1,6 @@
 -- What the vectors of a graph say of its lists.
 use Rattle.std.proofs.Common.{◌≡◌, inl, inr, ℕ, suc, ◌+◌, ◌<◌, ◌≤◌, Bool, true, false, not, ◌&&◌, ◌||◌, List, [], ◌∷◌, ◌++◌, length, get_or, map, filter, refl, sym, ◌∙◌, ap, subst, arith, eqb, leb, eqb-true, eq-eqb, ne_eqb, Option, Some, None}
+use Rattle.std.specs.Prelude.{if◌then◌else◌}
 use Rattle.std.specs.List.{list_any}
 use Rattle.std.proofs.lemmas.Bool.{and_from, and_parts, cases_Bool, cases_eq, cases_lt, cases_order, le-leb, leb-true, or_from, true≢false}
 use Rattle.dep_graph.specs.declared.pairs.Pair.{Pair}
@@ -306,3 +307,27 @@ least_of_first P ready pages from (Some page) up is (k, (lt, (at, (held, earlier
             | inr (inr after) ↦ let more = rises_at (λ a b. a < b) pages 0 up k w.0 after w.1 in omega arith
           ],
     )
+
+-- of the pairs that begin not at one page, those that begin at another are all of that page's, and none begins at the one
+pub from_others : (ps : List Pair) (page a : ℕ) → length (from_page (not_from_page ps page) a) ≡ (if eqb a page then 0 else length (from_page ps a))
+from_others ps page a = elim (cases_eq a page) [
+  | inl e ↦ rw (e, eq-eqb page page refl) (none_left ps)
+  | inr ne ↦ rw (ne_eqb a page ne) (others ps ne)
+]
+  where
+    none_left : (ps : List Pair) → length (from_page (not_from_page ps page) page) ≡ 0
+    none_left [] = refl
+    none_left (p ∷ ps) = elim (cases_Bool (eqb p.before page)) [
+      | inl is ↦ rw is (none_left ps)
+      | inr off ↦ rw (off, off) (none_left ps)
+    ]
+
+    others : (ps : List Pair) → (a ≡ page → ⊥) → length (from_page (not_from_page ps page) a) ≡ length (from_page ps a)
+    others [] ne = refl
+    others (p ∷ ps) ne = elim (cases_Bool (eqb p.before page)) [
+      | inl is ↦ rw (is, ne_eqb p.before a (λ e. ne (sym e ∙ eqb-true p.before page is))) (others ps ne)
+      | inr off ↦ elim (cases_Bool (eqb p.before a)) [
+        | inl here ↦ rw (off, here) (ap suc (others ps ne))
+        | inr there ↦ rw (off, there) (others ps ne)
+      ]
+    ]

@@ -8,6 +8,8 @@ pub mod GraphLemmas
 pub mod KeptLemmas
 pub mod SearchLemmas
 pub mod WaveLemmas
+pub mod WaveLevels
 pub mod LevelLemmas
 pub mod ReadyLemmas
 pub mod CountLemmas
+pub mod NodeLemmas

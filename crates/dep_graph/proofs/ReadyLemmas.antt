@@ -6,7 +6,7 @@ use Rattle.order_model.specs.declared.Kind.TheVariants.{Live}
 use Rattle.order_model.specs.Edges.{Edge, is_live}
 use Rattle.dep_graph.specs.Lists.{GraphLists, IsGraph, barred_in, dirty_in, is_ready, live_in, waits_in}
 use Rattle.dep_graph.specs.Pages.{holds}
-use Rattle.order_model.specs.Paths.{leg, LivePath}
+use Rattle.order_model.specs.Paths.{Closes, leg, LivePath, via}
 use Rattle.dep_graph.proofs.LevelLemmas.{no_source}
 use Rattle.dep_graph.proofs.RisingLemmas.{any_at, any_where}
 
@@ -87,6 +87,47 @@ waits_from g b is =
         | inr barrier ↦ inr (any_at (λ (f : Edge). eqb f.before e.before && (eqb f.after b && not (is_live f.kind))) g.edges w.0 no_edge w.1 (and_from _ _ (eq-eqb _ _ refl) (and_from _ _ w.2 (not_from_false _ barrier))))
       ],
     )
+
+-- from a list of pages those of a kind can be taken, unless that is absurd
+choose : (P : ℕ → Type 0) (pages : List ℕ) → ((l : List ℕ) → ((a : ℕ) → holds l a ≡ true → (holds pages a ≡ true) × P a) → ((a : ℕ) → holds pages a ≡ true → P a → holds l a ≡ true) → ⊥) → ⊥
+choose P [] k = k [] (λ a h. absurd (true≢false (sym h))) (λ a h p. h)
+choose P (x ∷ xs) k = choose P xs (λ l sound full.
+    let no_x : P x → ⊥ = λ px. k (x ∷ l)
+    (λ a h. elim (or_cases (eqb x a) (holds l a) h) [
+      | inl here ↦ (or_left _ _ here, subst P (eqb-true x a here) px)
+      | inr later ↦ let s = sound a later in (or_right _ _ s.0, s.1)
+    ])
+    (λ a h p. elim (or_cases (eqb x a) (holds xs a) h) [
+      | inl here ↦ or_left _ _ here
+      | inr later ↦ or_right _ _ (full a later p)
+    ]) in
+    k l
+    (λ a h. let s = sound a h in (or_right _ _ s.0, s.1))
+    (λ a h p. elim (or_cases (eqb x a) (holds xs a) h) [
+      | inl here ↦ absurd (no_x (subst P (sym (eqb-true x a here)) p))
+      | inr later ↦ full a later p
+    ]))
+
+-- where nothing is hung, a dirty page is ready, or some ready page has a way to it
+pub some_serves : (g : GraphLists) (page : ℕ) → IsGraph g → g.hung ≡ [] → dirty_in g page ≡ true → ((a : ℕ) → is_ready g a ≡ true → Closes (live_in g) page a → ⊥) → ⊥
+some_serves g page graph none_hung dirty none =
+    choose (Closes (live_in g) page) g.dirty (λ l sound full. no_source (live_in g) graph.acyclic l (λ p on. back l full p (sound p on).0 (sound p on).1) page (full page dirty (inl refl)))
+  where
+    waits : (p : ℕ) → holds g.dirty p ≡ true → Closes (live_in g) page p → waits_in g p ≡ true
+    waits p d c = elim (cases_Bool (waits_in g p)) [
+      | inl on ↦ on
+      | inr off ↦ absurd (none p (and_from _ _ d (not_from_false _ off)) c)
+    ]
+
+    further : (a p : ℕ) → live_in g a p ≡ true → Closes (live_in g) page p → Closes (live_in g) page a
+    further a p e (inl same) = inr (leg (subst (λ n. live_in g a n ≡ true) (sym same) e))
+    further a p e (inr way) = inr (via e way)
+
+    back : (l : List ℕ) → ((a : ℕ) → holds g.dirty a ≡ true → Closes (live_in g) page a → holds l a ≡ true) → (p : ℕ) → holds g.dirty p ≡ true → Closes (live_in g) page p → (a : ℕ) × (LivePath (live_in g) a p × (holds l a ≡ true))
+    back l full p d c = let w = waits_from g p (waits p d c) in elim w.1 [
+      | inl live ↦ (w.0, (leg live, full w.0 (graph.live_ends w.0 p live).0 (further w.0 p live c)))
+      | inr barred ↦ absurd (true≢false (sym (graph.barred_ends w.0 p barred).0 ∙ ap (λ (h : List ℕ). holds h w.0) none_hung))
+    ]
 
 waits_to : (g : GraphLists) (a b : ℕ) → (live_in g a b ≡ true) ⊎ (barred_in g a b ≡ true) → waits_in g b ≡ true
 waits_to g a b (inl live) =

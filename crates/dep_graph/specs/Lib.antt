@@ -3,6 +3,7 @@ pub mod Pages
 pub mod Waits
 pub mod Pairs
 pub mod Lists
+pub mod Calls
 pub mod Schedules
 pub mod Trails
 pub mod Kept

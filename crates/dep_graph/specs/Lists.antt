@@ -1,5 +1,5 @@
 -- A graph as contracts see it: plain lists of marks and edges.
-use Rattle.std.specs.Prelude.{◌≡◌, ℕ, ◌+◌, ◌-◌, ◌++◌, if◌then◌else◌, List, Bool, true, false, not, ◌&&◌, ◌||◌, eqb, map, filter, length}
+use Rattle.std.specs.Prelude.{◌≡◌, ℕ, ◌+◌, ◌-◌, ◌++◌, if◌then◌else◌, List, Bool, true, not, ◌&&◌, ◌||◌, eqb, map, filter, length}
 use Rattle.std.specs.List.{list_any}
 use Rattle.order_model.specs.declared.Kind.{Kind}
 use Rattle.order_model.specs.declared.Kind.TheVariants.{Live, Barrier}

@@ -2,6 +2,7 @@
 ghost use Rattle.std.specs.Prelude.{◌≡◌, ℕ, ◌+◌, ◌-◌, ◌<◌, ◌≤◌, ◌^◌, ◌||◌, ◌&&◌, ◌↔◌, not, eqb, true, false, length, vec_capacity, [], max, IfOk, OnOk, OnErr, if◌then◌else◌};
 ghost use Rattle.order_model.specs.Edges.{is_live};
 ghost use Rattle.dep_graph.specs.Lists.{dirty_in, hung_in, live_in, barred_in, edge_in, entered, is_node, is_ready, node_count, waiter_count, waits_in, IsGraph, marks_of};
+ghost use Rattle.dep_graph.specs.Calls.{Fixed, Wrote};
 ghost use Rattle.dep_graph.specs.Pages.{IsLeast};
 ghost use Rattle.order_model.specs.Levels.{IsGreatestLevel};
 ghost use Rattle.order_model.specs.Paths.{Closes};
@@ -323,19 +324,12 @@ impl Graph {
         self.spare_edges -= 1;
     }
 
-    /// The page, which was ready, was written: it is hung and not dirty, and its outgoing Live edges wait for a barrier alone.
+    /// The page, which was ready, was written: it is hung and not dirty, and its outgoing Live edges wait for a barrier alone. No
+    /// page waits for its write any more; as many as before wait for that of each other page.
     /// It costs the page's own edges, each with a look-up, beside moving small elements of sorted vectors.
     pub fn wrote(&mut self, page: u32)
         requires { is_ready self.old page ≡ true }
-        ensures dirty { (a : ℕ) → dirty_in self.new a ≡ (dirty_in self.old a && not (eqb a page)) }
-        ensures hung { (a : ℕ) → hung_in self.new a ≡ (hung_in self.old a || eqb a page) }
-        ensures live { (a b : ℕ) → live_in self.new a b ≡ (live_in self.old a b && not (eqb a page)) }
-        ensures barred { (a b : ℕ) → barred_in self.new a b ≡ (barred_in self.old a b || (live_in self.old a b && eqb a page)) }
-        ensures spare_nodes { self.new.spare_nodes ≡ self.old.spare_nodes }
-        ensures spare_edges { self.new.spare_edges ≡ self.old.spare_edges }
-        ensures graph { IsGraph self.new }
-        ensures nodes { node_count self.new ≡ node_count self.old }
-        ensures marked { length self.new.dirty + 1 ≡ length self.old.dirty }
+        ensures { Wrote page self.old self.new }
     {
         self.dirty.leave(page);
         self.hung_only += 1;
@@ -348,17 +342,11 @@ impl Graph {
         pages::include(&mut self.hung, page);
     }
 
-    /// A barrier was made: all hung marks and all Barrier edges go, and each page without a mark is no node any more.
+    /// A barrier was made: all hung marks and all Barrier edges go, and each page without a mark is no node any more. As many pages
+    /// as before wait for the write of each.
     /// It costs the hung pages and their Barrier edges, each edge with a look-up, beside moving small elements of a sorted vector.
     pub fn barrier(&mut self)
-        ensures dirty { self.new.dirty ≡ self.old.dirty }
-        ensures hung { self.new.hung ≡ [] }
-        ensures live { (a b : ℕ) → live_in self.new a b ≡ live_in self.old a b }
-        ensures barred { (a b : ℕ) → barred_in self.new a b ≡ false }
-        ensures spare_nodes { self.new.spare_nodes ≡ self.old.spare_nodes }
-        ensures spare_edges { self.new.spare_edges ≡ self.old.spare_edges }
-        ensures graph { IsGraph self.new }
-        ensures nodes { node_count self.new ≡ length self.old.dirty }
+        ensures { Fixed self.old self.new }
     {
         lower_each(&self.barred, &mut self.dirty);
         self.barred.clear();

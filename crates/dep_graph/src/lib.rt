@@ -18,7 +18,8 @@ mod waiting;
 
 pub use graph::{Graph, NODE_LIMIT};
 pub use laws::{
-    barriers_are_fewest, edges_are_waited_for, edges_into_one_page, some_page_is_ready,
+    barriers_are_fewest, edges_are_waited_for, edges_into_one_page, nodes_are_counted,
+    some_page_is_ready,
 };
 pub use order_model::Kind;
 pub use page_device::NoMemory;

@@ -1,8 +1,8 @@
 use Rattle.std.proofs.Common.{ap, sym, ◌∙◌, List, length, arith}
 use Rattle.dep_graph.specs.declared.pairs.Pair.{Pair}
 use Rattle.dep_graph.specs.Pairs.{ends_at, has_pair}
-use Rattle.dep_graph.specs.Lists.{GraphLists, live_in}
-use Rattle.dep_graph.proofs.GraphLemmas.{graph_of, live_is, barred_is}
+use Rattle.dep_graph.specs.Lists.{GraphLists, live_in, waiter_count}
+use Rattle.dep_graph.proofs.GraphLemmas.{graph_of, live_is, barred_is, waiters_are}
 use Rattle.dep_graph.proofs.KeptLemmas.{kept_fixed}
 use Rattle.dep_graph.proofs.graph.Graph.barrier.Goals as goal
 
@@ -34,16 +34,17 @@ invariant_of-self c =
       c.self.invariant.2,
     )
 
-pub returns-clause-live : goal.returns-clause-live
-returns-clause-live c = λ a b. live_is c.self.inside.live.items c.clear.new.self.items a b ∙ sym (live_is c.self.inside.live.items c.self.inside.barred.items a b) ∙ ap (λ (g : GraphLists). live_in g a b) c.self.view_is
-
-pub returns-clause-barred : goal.returns-clause-barred
-returns-clause-barred c = λ a b. barred_is c.self.inside.live.items c.clear.new.self.items a b ∙ ap (λ (l : List Pair). has_pair l a b) c.clear.ensures.items
-
-pub returns-clause-graph : goal.returns-clause-graph
-returns-clause-graph c = graph_of c.lower_each.new.dirty c.clear-2.new.self.items 0 c.self.inside.live.items c.clear.new.self.items _ _ (invariant_of-self c).0
-
-pub returns-clause-nodes : goal.returns-clause-nodes
-returns-clause-nodes c =
-    let dirty = ap length c.lower_each.ensures.pages ∙ ap (λ (g : GraphLists). length g.dirty) c.self.view_is in
-    rw c.clear-2.ensures.items (omega (arith, dirty))
+pub returns : goal.returns
+returns c =
+    let dirty = c.lower_each.ensures.pages ∙ ap (λ (g : GraphLists). g.dirty) c.self.view_is in
+    record {
+      dirty = dirty;
+      hung = c.clear-2.ensures.items;
+      live = λ a b. live_is c.self.inside.live.items c.clear.new.self.items a b ∙ sym (live_is c.self.inside.live.items c.self.inside.barred.items a b) ∙ ap (λ (g : GraphLists). live_in g a b) c.self.view_is;
+      barred = λ a b. barred_is c.self.inside.live.items c.clear.new.self.items a b ∙ ap (λ (l : List Pair). has_pair l a b) c.clear.ensures.items;
+      waiters = λ a. waiters_are c.self.inside.live.items c.clear.new.self.items a ∙ sym (waiters_are c.self.inside.live.items c.self.inside.barred.items a) ∙ ap (λ (g : GraphLists). waiter_count g a) c.self.view_is;
+      spare_nodes = ap (λ (g : GraphLists). g.spare_nodes) c.self.view_is;
+      spare_edges = ap (λ (g : GraphLists). g.spare_edges) c.self.view_is;
+      graph = graph_of c.lower_each.new.dirty c.clear-2.new.self.items 0 c.self.inside.live.items c.clear.new.self.items _ _ (invariant_of-self c).0;
+      nodes = let len = ap length dirty in rw c.clear-2.ensures.items (omega (arith, len));
+    }

@@ -1,12 +1,13 @@
+use Rattle.std.specs.Prelude.{if◌then◌else◌}
 use Rattle.std.proofs.Common.{◌≡◌, ap, subst, sym, ◌∙◌, not, ◌||◌, ◌&&◌, ◌+◌, ℕ, List, length, eqb, arith}
 use Rattle.std.proofs.lemmas.Bool.{and_parts, not-true}
 use Rattle.dep_graph.specs.declared.pairs.Pair.{Pair}
 use Rattle.dep_graph.specs.Pages.{holds}
 use Rattle.dep_graph.specs.Pairs.{AreRising, has_pair, ends_at, from_page}
 use Rattle.dep_graph.specs.Waits.{waits_for}
-use Rattle.dep_graph.specs.Lists.{GraphLists, IsGraph, barred_in, dirty_in, hung_in, is_ready, live_in}
+use Rattle.dep_graph.specs.Lists.{GraphLists, IsGraph, barred_in, dirty_in, hung_in, is_ready, live_in, waiter_count}
 use Rattle.dep_graph.specs.Kept.{IsKept}
-use Rattle.dep_graph.proofs.GraphLemmas.{graph_of, hung_room, ends_parts, has_from, has_not_from, live_is, barred_is, length_parts, none_leads}
+use Rattle.dep_graph.proofs.GraphLemmas.{graph_of, hung_room, ends_parts, from_others, has_from, has_not_from, live_is, barred_is, length_parts, none_leads, waiters_are}
 use Rattle.dep_graph.proofs.PageLemmas.{fewer, shorter_by_one}
 use Rattle.dep_graph.proofs.KeptLemmas.{kept_wrote}
 use Rattle.dep_graph.proofs.CountLemmas.{wrote_marked, wrote_nodes}
@@ -77,35 +78,31 @@ invariant_of-self c =
       c.self.invariant.2,
     )
 
-pub returns-clause-live : goal.returns-clause-live
-returns-clause-live c = λ a b.
-    live_is c.remove_out_of.new.pairs.items c.bar_each.new.barred.items a b ∙ ap (λ (l : List Pair). has_pair l a b) c.remove_out_of.ensures.items ∙ has_not_from c.self.inside.live.items c.args.page a b
-    ∙ ap (λ x. x && not (eqb a c.args.page)) (sym (live_is c.self.inside.live.items c.self.inside.barred.items a b) ∙ ap (λ (g : GraphLists). live_in g a b) c.self.view_is)
-
-pub returns-clause-barred : goal.returns-clause-barred
-returns-clause-barred c =
+pub returns : goal.returns
+returns c =
     let out = c.out_of.ensures ∙ ap (λ (l : List Pair). from_page l c.args.page) c.deref.ensures.value in
-    λ a b.
-    let live = sym (live_is c.self.inside.live.items c.self.inside.barred.items a b) ∙ ap (λ (g : GraphLists). live_in g a b) c.self.view_is in
-    let barred = sym (barred_is c.self.inside.live.items c.self.inside.barred.items a b) ∙ ap (λ (g : GraphLists). barred_in g a b) c.self.view_is in
-    barred_is c.remove_out_of.new.pairs.items c.bar_each.new.barred.items a b ∙ c.bar_each.ensures.pairs a b
-    ∙ ap (λ (l : List Pair). has_pair c.self.inside.barred.items a b || has_pair l a b) out ∙ ap (λ x. has_pair c.self.inside.barred.items a b || x) (has_from c.self.inside.live.items c.args.page a b) ∙ rw (live, barred)
-
-pub returns-clause-graph : goal.returns-clause-graph
-returns-clause-graph c = graph_of c.bar_each.new.dirty c.include.new.pages.items (c.self.inside.hung_only + 1) c.remove_out_of.new.pairs.items c.bar_each.new.barred.items _ _ (invariant_of-self c).0
-
-pub returns-clause-nodes : goal.returns-clause-nodes
-returns-clause-nodes c =
     let was = subst IsGraph c.self.view_is (graph_of c.self.inside.dirty c.self.inside.hung.items c.self.inside.hung_only c.self.inside.live.items c.self.inside.barred.items _ _ c.self.invariant.0) in
+    let is = graph_of c.bar_each.new.dirty c.include.new.pages.items (c.self.inside.hung_only + 1) c.remove_out_of.new.pairs.items c.bar_each.new.barred.items c.self.inside.spare_nodes c.self.inside.spare_edges (invariant_of-self c).0 in
     let on = (and_parts _ _ c.requires).0 in
     let dirty = λ (a : ℕ). ap (λ (l : List ℕ). holds l a) c.bar_each.ensures.pages ∙ c.leave.ensures.pages a ∙ ap (λ (g : GraphLists). dirty_in g a && not (eqb a c.args.page)) c.self.view_is in
     let hung = λ (a : ℕ). c.include.ensures.pages a ∙ ap (λ (g : GraphLists). hung_in g a || eqb a c.args.page) c.self.view_is in
-    wrote_nodes c.args.page c.args.self.now _ was (returns-clause-graph c) on dirty hung
-
-pub returns-clause-marked : goal.returns-clause-marked
-returns-clause-marked c =
-    let was = subst IsGraph c.self.view_is (graph_of c.self.inside.dirty c.self.inside.hung.items c.self.inside.hung_only c.self.inside.live.items c.self.inside.barred.items _ _ c.self.invariant.0) in
-    let on = (and_parts _ _ c.requires).0 in
-    let dirty = λ (a : ℕ). ap (λ (l : List ℕ). holds l a) c.bar_each.ensures.pages ∙ c.leave.ensures.pages a ∙ ap (λ (g : GraphLists). dirty_in g a && not (eqb a c.args.page)) c.self.view_is in
-    let hung = λ (a : ℕ). c.include.ensures.pages a ∙ ap (λ (g : GraphLists). hung_in g a || eqb a c.args.page) c.self.view_is in
-    wrote_marked c.args.page c.args.self.now _ was (returns-clause-graph c) on dirty hung
+    record {
+      dirty = dirty;
+      hung = hung;
+      live = λ a b.
+          live_is c.remove_out_of.new.pairs.items c.bar_each.new.barred.items a b ∙ ap (λ (l : List Pair). has_pair l a b) c.remove_out_of.ensures.items ∙ has_not_from c.self.inside.live.items c.args.page a b
+          ∙ ap (λ x. x && not (eqb a c.args.page)) (sym (live_is c.self.inside.live.items c.self.inside.barred.items a b) ∙ ap (λ (g : GraphLists). live_in g a b) c.self.view_is);
+      barred = λ a b.
+          let live = sym (live_is c.self.inside.live.items c.self.inside.barred.items a b) ∙ ap (λ (g : GraphLists). live_in g a b) c.self.view_is in
+          let barred = sym (barred_is c.self.inside.live.items c.self.inside.barred.items a b) ∙ ap (λ (g : GraphLists). barred_in g a b) c.self.view_is in
+          barred_is c.remove_out_of.new.pairs.items c.bar_each.new.barred.items a b ∙ c.bar_each.ensures.pairs a b
+          ∙ ap (λ (l : List Pair). has_pair c.self.inside.barred.items a b || has_pair l a b) out ∙ ap (λ x. has_pair c.self.inside.barred.items a b || x) (has_from c.self.inside.live.items c.args.page a b) ∙ rw (live, barred);
+      waiters = λ a.
+          waiters_are c.remove_out_of.new.pairs.items c.bar_each.new.barred.items a ∙ ap (λ (l : List Pair). length (from_page l a)) c.remove_out_of.ensures.items ∙ from_others c.self.inside.live.items c.args.page a
+          ∙ ap (λ n. if eqb a c.args.page then 0 else n) (sym (waiters_are c.self.inside.live.items c.self.inside.barred.items a) ∙ ap (λ (g : GraphLists). waiter_count g a) c.self.view_is);
+      spare_nodes = ap (λ (g : GraphLists). g.spare_nodes) c.self.view_is;
+      spare_edges = ap (λ (g : GraphLists). g.spare_edges) c.self.view_is;
+      graph = is;
+      nodes = wrote_nodes c.args.page c.args.self.now _ was is on dirty hung;
+      marked = wrote_marked c.args.page c.args.self.now _ was is on dirty hung;
+    }
