@@ -1,0 +1,11 @@
+pub mod Snoc
+pub mod TallyLemmas
+pub mod GraphAfter
+pub mod Chains
+pub mod FitLemmas
+pub mod DueLemmas
+pub mod WaveLemmas
+pub mod FlushLemmas
+pub mod EditLemmas
+pub mod OfferLemmas
+pub mod PickLemmas

@@ -1,0 +1,18 @@
+use Rattle.std.proofs.Common.{◌≡◌, List, map, subst, ◌∙◌, refl, false}
+use Rattle.dep_graph.specs.Pages.{holds, IsAt, IsPlace}
+use Rattle.flush_engine.specs.declared.tallies.Tally.{Tally}
+use Rattle.flush_engine.specs.Tallies.{page_of}
+use Rattle.flush_engine.proofs.TallyLemmas.{counted_more, counted_new}
+use Rattle.flush_engine.proofs.tallies.count.Goals as goal
+
+pub returns-then-stands_at-clause-items : goal.returns-then-stands_at-clause-items
+returns-then-stands_at-clause-items c =
+    let at = subst (λ (l : List Tally). IsPlace (map page_of l) c.args.page c.place_of-at.result) c.deref.ensures.value c.place_of-at.ensures in
+    let is = subst (λ (l : List Tally). IsAt (map page_of l) c.args.page c.place_of-at.result) c.deref-2.ensures.value (c.if-stands_at.ensures.there refl) in
+    c.edit_at.ensures.items ∙ counted_more c.args.tallies.now.items c.args.page c.place_of-at.result at is
+
+pub returns-else-stands_at-clause-items : goal.returns-else-stands_at-clause-items
+returns-else-stands_at-clause-items c =
+    let at = subst (λ (l : List Tally). IsPlace (map page_of l) c.args.page c.place_of-at.result) c.deref.ensures.value c.place_of-at.ensures in
+    let off = subst (λ (l : List Tally). holds (map page_of l) c.args.page ≡ false) c.deref-2.ensures.value (c.if-stands_at.ensures.absent refl) in
+    c.insert_at.ensures.items ∙ counted_new c.args.tallies.now.items c.args.page c.place_of-at.result at off

@@ -1,0 +1,9 @@
+pub mod Telling
+pub mod Tallies
+pub mod View
+pub mod Steps
+pub mod Along
+pub mod Waves
+pub mod Flush
+pub mod Idle
+pub mod Edits
