@@ -1,11 +1,13 @@
 -- How many pages are dirty, and how many are nodes, after each call of a graph; and the exact lists of a graph that a page entered.
-use Rattle.std.proofs.Common.{◌≡◌, ◌⊎◌, inl, inr, ◌+◌, ◌-◌, ◌<◌, ℕ, Bool, true, false, not, ◌&&◌, ◌||◌, cond, length, List, [], ◌∷◌, nat_lt, eqb, eqb-true, eq-eqb, refl, sym, ◌∙◌, ap, arith}
+use Rattle.std.proofs.Common.{◌≡◌, ◌⊎◌, inl, inr, ◌+◌, ◌-◌, ◌<◌, ℕ, Bool, true, false, not, ◌&&◌, ◌||◌, cond, filter, length, List, [], ◌∷◌, nat_lt, eqb, eqb-true, eq-eqb, refl, sym, ◌∙◌, ap, arith}
 use Rattle.std.specs.Prelude.{if◌then◌else◌}
-use Rattle.std.proofs.lemmas.Bool.{and_from, cases_Bool, cases_eq, false_from_ne_true, not_from_false, or_cases, or_left, true≢false}
+use Rattle.std.specs.List.{list_any}
+use Rattle.std.proofs.lemmas.Bool.{and_from, cases_Bool, cases_eq, false_from_ne_true, not_from_false, or_cases, or_left, or_right, true≢false}
 use Rattle.std.proofs.lemmas.Bool.Decides.{nat_tests}
 use Rattle.dep_graph.specs.Kept.{hung_alone}
-use Rattle.order_model.specs.Edges.{Edge}
-use Rattle.dep_graph.specs.Lists.{GraphLists, IsGraph, dirty_in, entered, hung_in, is_node, node_count}
+use Rattle.order_model.specs.Edges.{Edge, is_live}
+use Rattle.dep_graph.specs.Calls.{Dropped}
+use Rattle.dep_graph.specs.Lists.{GraphLists, IsGraph, dirty_in, entered, hung_in, is_node, live_in, node_count, waiter_count}
 use Rattle.dep_graph.specs.Pages.{holds, IsRising, placed}
 use Rattle.dep_graph.specs.Rising.{Leads, Rises}
 use Rattle.dep_graph.proofs.GraphLemmas.{alone_is, alone_rises}
@@ -250,3 +252,43 @@ module _ (page : ℕ) (g h : GraphLists) (was : IsGraph g) (is : IsGraph h) wher
                 rw (on, none) (omega (arith, less, same))
           ]
     ]
+
+-- a page waits for another's write where a Live edge is counted
+none_wait : (g : GraphLists) (a : ℕ) → ((b : ℕ) → live_in g a b ≡ false) → waiter_count g a ≡ 0
+none_wait g a none = by g.edges (λ b. none b)
+  where
+    apart : (p q x : Bool) → ((p && (true && q)) || x) ≡ false → (p && q) ≡ false
+    apart false q x e = refl
+    apart true false x e = refl
+    apart true true x e = absurd (true≢false e)
+
+    later : (x y : Bool) → (x || y) ≡ false → y ≡ false
+    later x false h = refl
+    later x true h = absurd (true≢false (sym (or_right x true refl) ∙ h))
+
+    by : (edges : List Edge) → ((b : ℕ) → list_any (λ (e : Edge). eqb e.before a && (eqb e.after b && is_live e.kind)) edges ≡ false) → length (filter (λ (e : Edge). eqb e.before a && is_live e.kind) edges) ≡ 0
+    by [] off = refl
+    by (e ∷ es) off =
+        let here = apart (eqb e.before a) (is_live e.kind) _ (rw (eq-eqb e.after e.after refl) at (off e.after)) in
+        rw here (by es (λ b. later (eqb e.before a && (eqb e.after b && is_live e.kind)) _ (off b)))
+
+-- nothing changes where a page is dropped that is not dirty
+pub not_dirty : (page : ℕ) (g : GraphLists) → IsGraph g → dirty_in g page ≡ false → Dropped page g g
+not_dirty page g graph off = record {
+  dirty = λ a. sym (out_already _ _ (at_page g.dirty page false off a));
+  hung = refl;
+  live = λ a b. sym (out_already (live_in g a b) (eqb a page) (λ e. clean a b (at_page g.dirty page false off a e)));
+  barred = λ a b. refl;
+  waiters = λ a. elim (cases_Bool (eqb a page)) [
+    | inl e ↦ rw e (none_wait g a (λ b. clean a b (at_page g.dirty page false off a e)))
+    | inr ne ↦ rw ne refl
+  ];
+  spare_nodes = refl;
+  spare_edges = refl;
+  graph = graph;
+  nodes = rw off refl;
+  marked = rw off refl;
+}
+  where
+    clean : (a b : ℕ) → dirty_in g a ≡ false → live_in g a b ≡ false
+    clean a b none = false_from_ne_true _ (λ on. true≢false (sym (graph.live_ends a b on).0 ∙ none))

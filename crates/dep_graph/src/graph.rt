@@ -2,7 +2,7 @@
 ghost use Rattle.std.specs.Prelude.{◌≡◌, ℕ, ◌+◌, ◌-◌, ◌<◌, ◌≤◌, ◌^◌, ◌||◌, ◌&&◌, ◌↔◌, not, eqb, true, false, length, vec_capacity, [], max, IfOk, OnOk, OnErr, if◌then◌else◌};
 ghost use Rattle.order_model.specs.Edges.{is_live};
 ghost use Rattle.dep_graph.specs.Lists.{dirty_in, hung_in, live_in, barred_in, edge_in, entered, is_node, is_ready, node_count, waiter_count, waits_in, IsGraph, marks_of};
-ghost use Rattle.dep_graph.specs.Calls.{Fixed, Wrote};
+ghost use Rattle.dep_graph.specs.Calls.{Dropped, Fixed, Wrote};
 ghost use Rattle.dep_graph.specs.Pages.{IsLeast};
 ghost use Rattle.order_model.specs.Levels.{IsGreatestLevel};
 ghost use Rattle.order_model.specs.Paths.{Closes};
@@ -355,18 +355,10 @@ impl Graph {
     }
 
     /// Takes the dirty mark from a page to which no edge leads, and its outgoing Live edges. A page that is also hung stays a
-    /// node. It costs the page's own edges, each with a look-up, beside moving small elements of sorted vectors.
+    /// node. No page waits for it any more. It costs the page's own edges, each with a look-up, beside moving small elements of sorted vectors.
     pub fn drop_node(&mut self, page: u32)
         requires { waits_in self.old page ≡ false }
-        ensures dirty { (a : ℕ) → dirty_in self.new a ≡ (dirty_in self.old a && not (eqb a page)) }
-        ensures hung { self.new.hung ≡ self.old.hung }
-        ensures live { (a b : ℕ) → live_in self.new a b ≡ (live_in self.old a b && not (eqb a page)) }
-        ensures barred { (a b : ℕ) → barred_in self.new a b ≡ barred_in self.old a b }
-        ensures spare_nodes { self.new.spare_nodes ≡ self.old.spare_nodes }
-        ensures spare_edges { self.new.spare_edges ≡ self.old.spare_edges }
-        ensures graph { IsGraph self.new }
-        ensures nodes { node_count self.new ≡ (if dirty_in self.old page && not (hung_in self.old page) then node_count self.old - 1 else node_count self.old) }
-        ensures marked { length self.new.dirty ≡ (if dirty_in self.old page then length self.old.dirty - 1 else length self.old.dirty) }
+        ensures { Dropped page self.old self.new }
     {
         if !self.dirty.contains(page) {
             return;

@@ -1,24 +1,17 @@
-use Rattle.std.proofs.Common.{◌≡◌, refl, ap, subst, sym, ◌∙◌, inl, inr, ◌+◌, ◌≤◌, Bool, not, ◌&&◌, ℕ, List, length, eqb, arith}
+use Rattle.std.specs.Prelude.{if◌then◌else◌}
+use Rattle.std.proofs.Common.{◌≡◌, ap, subst, sym, ◌∙◌, inl, inr, ◌+◌, ◌≤◌, Bool, not, ◌&&◌, ℕ, List, length, eqb, arith}
 use Rattle.std.proofs.lemmas.Bool.{and_parts, cases_Bool}
 use Rattle.std.specs.Int.{from_bool}
 use Rattle.dep_graph.specs.declared.pairs.Pair.{Pair}
 use Rattle.dep_graph.specs.Pages.{holds}
 use Rattle.dep_graph.specs.Pairs.{AreRising, has_pair, ends_at, from_page}
-use Rattle.dep_graph.specs.Lists.{GraphLists, IsGraph, barred_in, dirty_in, live_in, waits_in}
+use Rattle.dep_graph.specs.Lists.{GraphLists, IsGraph, barred_in, dirty_in, live_in, waiter_count, waits_in}
 use Rattle.dep_graph.specs.Kept.{IsKept}
-use Rattle.dep_graph.proofs.GraphLemmas.{graph_of, ends_parts, has_not_from, live_is, barred_is, length_parts, none_leads, none_from}
+use Rattle.dep_graph.proofs.GraphLemmas.{graph_of, ends_parts, from_others, has_not_from, live_is, barred_is, length_parts, none_leads, waiters_are}
 use Rattle.dep_graph.proofs.PageLemmas.{fewer, shorter_by_one}
 use Rattle.dep_graph.proofs.KeptLemmas.{kept_drop}
-use Rattle.dep_graph.proofs.CountLemmas.{dropped_marked, dropped_nodes}
+use Rattle.dep_graph.proofs.CountLemmas.{dropped_marked, dropped_nodes, not_dirty}
 use Rattle.dep_graph.proofs.graph.Graph.drop_node.Goals as goal
-
-pub returns-then-not-contains-clause-live : goal.returns-then-not-contains-clause-live
-returns-then-not-contains-clause-live c = λ a b.
-    let is = sym (live_is c.self.inside.live.items c.self.inside.barred.items a b) ∙ ap (λ (g : GraphLists). live_in g a b) c.self.view_is in
-    rw (← is) (none_from c.self.inside.dirty c.self.inside.hung.items c.self.inside.hung_only c.self.inside.live.items c.self.inside.barred.items c.args.page a b c.self.invariant.0 (sym c.contains.ensures ∙ c.if-not-contains.true))
-
-pub returns-then-not-contains-clause-graph : goal.returns-then-not-contains-clause-graph
-returns-then-not-contains-clause-graph c = subst IsGraph c.self.view_is (graph_of c.self.inside.dirty c.self.inside.hung.items c.self.inside.hung_only c.self.inside.live.items c.self.inside.barred.items _ _ c.self.invariant.0)
 
 pub leave-requires-clause-ready : goal.leave-requires-clause-ready
 leave-requires-clause-ready c = none_leads c.self.inside.dirty c.self.inside.hung.items c.self.inside.hung_only c.self.inside.live.items c.self.inside.barred.items c.args.page c.self.invariant.0 (ap (λ (g : GraphLists). waits_in g c.args.page) c.self.view_is ∙ c.requires)
@@ -79,37 +72,31 @@ invariant_of-self c =
       c.self.invariant.2,
     )
 
-pub returns-clause-live : goal.returns-clause-live
-returns-clause-live c = λ a b.
-    live_is c.remove_out_of.new.pairs.items c.self.inside.barred.items a b ∙ ap (λ (l : List Pair). has_pair l a b) c.remove_out_of.ensures.items ∙ has_not_from c.self.inside.live.items c.args.page a b
-    ∙ ap (λ x. x && not (eqb a c.args.page)) (sym (live_is c.self.inside.live.items c.self.inside.barred.items a b) ∙ ap (λ (g : GraphLists). live_in g a b) c.self.view_is)
-
-pub returns-clause-barred : goal.returns-clause-barred
-returns-clause-barred c = λ a b. barred_is c.remove_out_of.new.pairs.items c.self.inside.barred.items a b ∙ sym (barred_is c.self.inside.live.items c.self.inside.barred.items a b) ∙ ap (λ (g : GraphLists). barred_in g a b) c.self.view_is
-
-pub returns-clause-graph : goal.returns-clause-graph
-returns-clause-graph c = graph_of c.lower_each.new.dirty c.self.inside.hung.items (c.self.inside.hung_only + c.from.result) c.remove_out_of.new.pairs.items c.self.inside.barred.items _ _ (invariant_of-self c).0
-
-pub returns-then-not-contains-clause-nodes : goal.returns-then-not-contains-clause-nodes
-returns-then-not-contains-clause-nodes c =
-    let off = sym (ap (λ (g : GraphLists). dirty_in g c.args.page) c.self.view_is) ∙ sym c.contains.ensures ∙ c.if-not-contains.true in
-    rw off refl
-
-pub returns-then-not-contains-clause-marked : goal.returns-then-not-contains-clause-marked
-returns-then-not-contains-clause-marked c =
-    let off = sym (ap (λ (g : GraphLists). dirty_in g c.args.page) c.self.view_is) ∙ sym c.contains.ensures ∙ c.if-not-contains.true in
-    rw off refl
-
-pub returns-clause-nodes : goal.returns-clause-nodes
-returns-clause-nodes c =
+pub returns : goal.returns
+returns c =
     let was = subst IsGraph c.self.view_is (graph_of c.self.inside.dirty c.self.inside.hung.items c.self.inside.hung_only c.self.inside.live.items c.self.inside.barred.items _ _ c.self.invariant.0) in
+    let is = graph_of c.lower_each.new.dirty c.self.inside.hung.items (c.self.inside.hung_only + c.from.result) c.remove_out_of.new.pairs.items c.self.inside.barred.items c.self.inside.spare_nodes c.self.inside.spare_edges (invariant_of-self c).0 in
     let dirty = λ (a : ℕ). ap (λ (l : List ℕ). holds l a) c.lower_each.ensures.pages ∙ c.leave.ensures.pages a ∙ ap (λ (g : GraphLists). dirty_in g a && not (eqb a c.args.page)) c.self.view_is in
     let hung = ap (λ (g : GraphLists). g.hung) c.self.view_is in
-    dropped_nodes c.args.page c.args.self.now _ was (returns-clause-graph c) dirty hung
+    record {
+      dirty = dirty;
+      hung = hung;
+      live = λ a b.
+          live_is c.remove_out_of.new.pairs.items c.self.inside.barred.items a b ∙ ap (λ (l : List Pair). has_pair l a b) c.remove_out_of.ensures.items ∙ has_not_from c.self.inside.live.items c.args.page a b
+          ∙ ap (λ x. x && not (eqb a c.args.page)) (sym (live_is c.self.inside.live.items c.self.inside.barred.items a b) ∙ ap (λ (g : GraphLists). live_in g a b) c.self.view_is);
+      barred = λ a b. barred_is c.remove_out_of.new.pairs.items c.self.inside.barred.items a b ∙ sym (barred_is c.self.inside.live.items c.self.inside.barred.items a b) ∙ ap (λ (g : GraphLists). barred_in g a b) c.self.view_is;
+      waiters = λ a.
+          waiters_are c.remove_out_of.new.pairs.items c.self.inside.barred.items a ∙ ap (λ (l : List Pair). length (from_page l a)) c.remove_out_of.ensures.items ∙ from_others c.self.inside.live.items c.args.page a
+          ∙ ap (λ n. if eqb a c.args.page then 0 else n) (sym (waiters_are c.self.inside.live.items c.self.inside.barred.items a) ∙ ap (λ (g : GraphLists). waiter_count g a) c.self.view_is);
+      spare_nodes = ap (λ (g : GraphLists). g.spare_nodes) c.self.view_is;
+      spare_edges = ap (λ (g : GraphLists). g.spare_edges) c.self.view_is;
+      graph = is;
+      nodes = dropped_nodes c.args.page c.args.self.now _ was is dirty hung;
+      marked = dropped_marked c.args.page c.args.self.now _ was is dirty hung;
+    }
 
-pub returns-clause-marked : goal.returns-clause-marked
-returns-clause-marked c =
-    let was = subst IsGraph c.self.view_is (graph_of c.self.inside.dirty c.self.inside.hung.items c.self.inside.hung_only c.self.inside.live.items c.self.inside.barred.items _ _ c.self.invariant.0) in
-    let dirty = λ (a : ℕ). ap (λ (l : List ℕ). holds l a) c.lower_each.ensures.pages ∙ c.leave.ensures.pages a ∙ ap (λ (g : GraphLists). dirty_in g a && not (eqb a c.args.page)) c.self.view_is in
-    let hung = ap (λ (g : GraphLists). g.hung) c.self.view_is in
-    dropped_marked c.args.page c.args.self.now _ was (returns-clause-graph c) dirty hung
+pub returns-then-not-contains : goal.returns-then-not-contains
+returns-then-not-contains c =
+    let off = sym (ap (λ (g : GraphLists). dirty_in g c.args.page) c.self.view_is) ∙ sym c.contains.ensures ∙ c.if-not-contains.true in
+    let graph = subst IsGraph c.self.view_is (graph_of c.self.inside.dirty c.self.inside.hung.items c.self.inside.hung_only c.self.inside.live.items c.self.inside.barred.items _ _ c.self.invariant.0) in
+    not_dirty c.args.page c.args.self.now graph off
