@@ -3,13 +3,15 @@ use Rattle.std.specs.Prelude.{◌≡◌, ◌≤◌, ◌+◌, ◌/◌, ◌-◌, B
 use Rattle.std.specs.Borrow.{Lends, MutBor, Fml}
 use Rattle.page_device.specs.Block.{Block}
 use Rattle.page_device.specs.contracts.block.Page.{the_row as page_row}
+use Rattle.page_cache.specs.Calls.{TakenOut}
 use Rattle.page_cache.specs.Lending.{with_content}
 use Rattle.page_cache.specs.View.{CacheView}
 use Rattle.page_cache.specs.View.{dirty_in as cached_dirty}
 use Rattle.page_cache.specs.contracts.cache.Cache.{the_row as cache_row}
+use Rattle.dep_graph.specs.Calls.{Dropped}
 use Rattle.dep_graph.specs.Lists.{GraphLists, IsGraph, barred_in, dirty_in, entered, hung_in, live_in}
 use Rattle.dep_graph.specs.contracts.graph.Graph.{the_row as graph_row}
-use Rattle.flush_engine.specs.Tallies.{counted}
+use Rattle.flush_engine.specs.Tallies.{counted, left_out}
 use Rattle.flush_engine.specs.View.{EngineView, IsWhole}
 use Rattle.flush_engine.specs.contracts.engine.Engine.{the_row}
 
@@ -51,3 +53,10 @@ pub record Ordered (before after : ℕ) (old new : GraphLists) : Type 0 where
   pub spare_nodes : new.spare_nodes ≡ old.spare_nodes
   pub spare_edges : new.spare_edges ≡ cond (is_ordered old before after) old.spare_edges (old.spare_edges - 1)
   pub graph : IsGraph new
+
+-- a dirty page is there no longer, and its content is lost
+pub record GivenUp (page : ℕ) (old new : EngineView) : Type 0 where
+  pub cache : TakenOut old.cache new.cache page
+  pub graph : Dropped page old.graph new.graph
+  pub tallies : new.tallies ≡ left_out page old.tallies
+  pub room : new.room ≡ old.room

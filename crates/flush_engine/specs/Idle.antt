@@ -40,7 +40,6 @@ module _ {W : Type 0} (T : Telling W) where
     pub offers : List Offer
     pub are : AreOffers a.engine offers
     pub place : ℕ
-    pub within : place < length offers
     pub asked : PolicyMeaning
     pub picks : Picks offers (Some place) old asked
     pub write : WriteDone T (slice_index_or offers place no_offer).page a b
@@ -51,7 +50,6 @@ module _ {W : Type 0} (T : Telling W) where
     pub offers : List Offer
     pub are : AreOffers a.engine offers
     pub place : ℕ
-    pub within : place < length offers
     pub picks : Picks offers (Some place) old new
     pub write : WriteFailed T (slice_index_or offers place no_offer).page a b
 

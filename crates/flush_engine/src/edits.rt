@@ -1,12 +1,13 @@
 // Edits of pages, and the order of their writes.
 ghost use Rattle.std.specs.Prelude.{◌≡◌, ◌<◌, true, false, nat_le, map};
 ghost use Rattle.order_model.specs.Paths.{Closes};
-ghost use Rattle.dep_graph.specs.Lists.{dirty_in, is_node, live_in, node_count};
+ghost use Rattle.page_cache.specs.View.{holds_in};
+ghost use Rattle.dep_graph.specs.Lists.{dirty_in, is_node, live_in, node_count, waits_in};
 ghost use Rattle.flush_engine.specs.Tallies.{older};
 ghost use Rattle.flush_engine.specs.View.{IsWhole};
-ghost use Rattle.flush_engine.specs.Edits.{Ordered, marked};
+ghost use Rattle.flush_engine.specs.Edits.{GivenUp, Ordered, marked};
 
-use crate::tallies::{count, raise};
+use crate::tallies::{count, leave, raise};
 use crate::writer::Writer;
 use dep_graph::Kind;
 
@@ -43,6 +44,19 @@ impl Writer {
         } else if self.graph.is_hung(before) {
             self.graph.add(before, after, Kind::Barrier);
         }
+    }
+
+    // Takes out a dirty page.
+    pub(crate) fn give_up(&mut self, page: u32)
+        requires dirty { dirty_in self.old.graph page ≡ true }
+        requires alone { waits_in self.old.graph page ≡ false }
+        requires free { holds_in self.old.cache page ≡ 0 }
+        requires whole { IsWhole self.old }
+        ensures { GivenUp page self.old self.new }
+    {
+        self.cache.give_up(page);
+        leave(&mut self.tallies, page);
+        self.graph.drop_node(page);
     }
 
     // Counts a turn in the age of each dirty page.

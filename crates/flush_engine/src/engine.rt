@@ -3,14 +3,14 @@ ghost use Rattle.std.specs.Prelude.{◌≡◌, ◌<◌, true, false, nat_le, map
 ghost use Rattle.std.specs.Borrow.{sem};
 ghost use Rattle.order_model.specs.Paths.{Closes};
 ghost use Rattle.page_cache.specs.View.{content_in, holds_in};
-ghost use Rattle.dep_graph.specs.Lists.{dirty_in, is_node, live_in, node_count};
+ghost use Rattle.dep_graph.specs.Lists.{dirty_in, is_node, live_in, node_count, waits_in};
 ghost use Rattle.flush_engine.specs.Tallies.{older};
 ghost use Rattle.flush_engine.specs.View.{Fits, IsWhole, Returned, at};
 ghost use Rattle.flush_engine.specs.Steps.{Steps};
 ghost use Rattle.flush_engine.specs.Waves.{WavesEnd};
 ghost use Rattle.flush_engine.specs.Flush.{FlushEnds};
 ghost use Rattle.flush_engine.specs.Idle.{TurnEnds};
-ghost use Rattle.flush_engine.specs.Edits.{IsNew, LendsCache, LendsGraph, LendsPage, Ordered};
+ghost use Rattle.flush_engine.specs.Edits.{GivenUp, IsNew, LendsCache, LendsGraph, LendsPage, Ordered};
 
 use crate::watch::Watch;
 use crate::writer::Writer;
@@ -141,6 +141,20 @@ impl Engine {
         ensures whole { IsWhole self.new }
     {
         self.writer.order(before, after);
+    }
+
+    /// Takes out a dirty page that nobody holds and that waits for no other: it is not dirty any more, its content is lost, and no
+    /// page waits for it. Where it is hung it is a node still. Logarithmic, beside its edges and moving small elements of sorted
+    /// vectors.
+    pub fn give_up(&mut self, page: u32)
+        requires dirty { dirty_in self.old.graph page ≡ true }
+        requires alone { waits_in self.old.graph page ≡ false }
+        requires free { holds_in self.old.cache page ≡ 0 }
+        requires whole { IsWhole self.old }
+        ensures given_up { GivenUp page self.old self.new }
+        ensures whole { IsWhole self.new }
+    {
+        self.writer.give_up(page);
     }
 
     /// Writes what a page waits for, and then the page, in waves: while it is dirty or hung, each ready page that is this one or has

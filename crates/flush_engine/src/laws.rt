@@ -1,12 +1,23 @@
 // What holds of engines.
 ghost use Rattle.std.specs.Prelude.{◌≡◌, ℕ, ◌<◌, false};
 ghost use Rattle.page_device.specs.Block.{Block};
-ghost use Rattle.page_cache.specs.View.{holds_in};
-ghost use Rattle.dep_graph.specs.Lists.{is_node, node_count};
-ghost use Rattle.flush_engine.specs.View.{EngineView, IsWhole};
+ghost use Rattle.page_device.specs.Meaning.{Meaning};
+ghost use Rattle.page_cache.specs.View.{CacheView, holds_in};
+ghost use Rattle.page_cache.specs.View.{dirty_in as cached_dirty};
+ghost use Rattle.dep_graph.specs.Lists.{GraphLists, is_node, node_count};
+ghost use Rattle.flush_engine.specs.View.{EngineView, Fits, IsWhole};
 ghost use Rattle.flush_engine.specs.Edits.{touched};
 
-/// An engine stays whole where a held page is touched for which there is room, whatever content is left in it.
+/// An engine stays whole where a held page is touched for which there is room, whatever content is left in it; and it fits its
+/// device still where the page is one of the device.
 pub fn touched_is_whole()
-    ensures { (e : EngineView) (page : ℕ) (block : Block) → 0 < holds_in e.cache page → (is_node e.graph page ≡ false → node_count e.graph < e.room) → IsWhole e → IsWhole (touched page block e) }
+    ensures whole { (e : EngineView) (page : ℕ) (block : Block) → 0 < holds_in e.cache page → (is_node e.graph page ≡ false → node_count e.graph < e.room) → IsWhole e → IsWhole (touched page block e) }
+    ensures fits { (e : EngineView) (d : Meaning) (page : ℕ) (block : Block) → 0 < holds_in e.cache page → (is_node e.graph page ≡ false → node_count e.graph < e.room) → page < d.pages → Fits e d → Fits (touched page block e) d }
+{}
+
+/// An engine fits its device still where no mark and no edge of its graph changed while it was lent, and where no dirty mark of its
+/// cache did.
+pub fn lent_parts_fit()
+    ensures graph { (e : EngineView) (d : Meaning) (g : GraphLists) → g.dirty ≡ e.graph.dirty → g.hung ≡ e.graph.hung → g.edges ≡ e.graph.edges → Fits e d → Fits (record e { graph = g }) d }
+    ensures cache { (e : EngineView) (d : Meaning) (cache : CacheView) → ((q : ℕ) → cached_dirty cache q ≡ cached_dirty e.cache q) → Fits e d → Fits (record e { cache = cache }) d }
 {}
