@@ -9,3 +9,4 @@ pub mod FlushLemmas
 pub mod EditLemmas
 pub mod OfferLemmas
 pub mod PickLemmas
+pub mod HoldLemmas

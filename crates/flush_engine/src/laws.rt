@@ -1,12 +1,18 @@
 // What holds of engines.
-ghost use Rattle.std.specs.Prelude.{◌≡◌, ℕ, ◌<◌, false};
+ghost use Rattle.std.specs.Prelude.{◌≡◌, ℕ, ◌<◌, Bool, false, Result, Ok};
 ghost use Rattle.page_device.specs.Block.{Block};
 ghost use Rattle.page_device.specs.Meaning.{Meaning};
 ghost use Rattle.page_cache.specs.View.{CacheView, holds_in};
 ghost use Rattle.page_cache.specs.View.{dirty_in as cached_dirty};
 ghost use Rattle.dep_graph.specs.Lists.{GraphLists, is_node, node_count};
-ghost use Rattle.flush_engine.specs.View.{EngineView, Fits, IsWhole};
+ghost use Rattle.page_device.specs.declared.error.Failed.{Failed};
+ghost use Rattle.merge_policy.specs.declared.labels.TheConstants.{HOLD};
+ghost use Rattle.merge_policy.specs.Meaning.{PolicyMeaning};
+ghost use Rattle.flush_engine.specs.View.{EngineView, Fits, IsWhole, Moment};
+ghost use Rattle.flush_engine.specs.Idle.{TurnEnds};
 ghost use Rattle.flush_engine.specs.Edits.{touched};
+
+use crate::watch::Watch;
 
 /// An engine stays whole where a held page is touched for which there is room, whatever content is left in it; and it fits its
 /// device still where the page is one of the device.
@@ -20,4 +26,9 @@ pub fn touched_is_whole()
 pub fn lent_parts_fit()
     ensures graph { (e : EngineView) (d : Meaning) (g : GraphLists) → g.dirty ≡ e.graph.dirty → g.hung ≡ e.graph.hung → g.edges ≡ e.graph.edges → Fits e d → Fits (record e { graph = g }) d }
     ensures cache { (e : EngineView) (d : Meaning) (cache : CacheView) → ((q : ℕ) → cached_dirty cache q ≡ cached_dirty e.cache q) → Fits e d → Fits (record e { cache = cache }) d }
+{}
+
+/// Over the policy that leaves every page, an idle turn changes nothing and answers `false`.
+pub fn hold_writes_nothing<W: Watch>()
+    ensures { (result : Result Bool Failed) (old new : PolicyMeaning) (a b : Moment W) → old.label ≡ HOLD → TurnEnds W.told result old a new b → (result ≡ Ok false) × (a ≡ b) × (new.label ≡ HOLD) }
 {}
