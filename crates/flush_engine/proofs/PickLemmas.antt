@@ -7,7 +7,7 @@ use Rattle.dep_graph.specs.Schedules.{MakeBarrier, Schedule, WritePage}
 use Rattle.flush_engine.specs.Telling.{Telling}
 use Rattle.flush_engine.specs.View.{Moment, Returned}
 use Rattle.flush_engine.specs.Steps.{Chain, Steps, WriteDone}
-use Rattle.flush_engine.specs.Idle.{AllPicked, BarrierEnds, PickDone, PickFailed, PickNone, PicksDone, PicksFailed, TurnEnds, no_offer}
+use Rattle.flush_engine.specs.Idle.{AllPicked, BarrierEnds, IdleStep, PickDone, PickFailed, PickNone, PicksDone, PicksFailed, TurnEnds, Turns, aged, no_offer}
 use Rattle.flush_engine.proofs.Chains.{chain_one, chain_then}
 use Rattle.flush_engine.proofs.FitLemmas.{Keeps, done_keeps, failed_keeps, keeps_none, kept_returned, no_failure}
 
@@ -84,3 +84,16 @@ module _ {W : Type 0} (T : Telling W) where
   -- a write leaves fewer dirty pages
   pub written_fewer : (page : ℕ) (a b : Moment W) → WriteDone T page a b → length b.engine.graph.dirty < length a.engine.graph.dirty
   written_fewer page a b w = let one = w.graph.marked in omega (arith, one)
+
+  -- an idle step without a pass, turn by turn
+  pub last_turn : (old new : PolicyMeaning) (a b : Moment W) → TurnEnds T (Ok false) old a new b → IdleStep T (λ x y. x ≡ y) (Ok tt) old a new (aged b)
+  unfolding Turns
+  last_turn old new a b h = record { barriers = 0; last = b; turns = h; passed = b; pass = refl; counted = refl }
+
+  pub failed_turn : (failed : Failed) (old new : PolicyMeaning) (a b : Moment W) → TurnEnds T (Err failed) old a new b → IdleStep T (λ x y. x ≡ y) (Err failed) old a new (aged b)
+  unfolding Turns
+  failed_turn failed old new a b h = record { barriers = 0; last = b; turns = h; passed = b; pass = refl; counted = refl }
+
+  pub turn_before : (result : Result Unit Failed) (old mid new : PolicyMeaning) (a m b : Moment W) → TurnEnds T (Ok true) old a mid m → IdleStep T (λ x y. x ≡ y) result mid m new b → IdleStep T (λ x y. x ≡ y) result old a new b
+  unfolding Turns
+  turn_before result old mid new a m b h s = record { barriers = suc s.barriers; last = s.last; turns = (mid, m, m, h, refl, s.turns); passed = s.passed; pass = s.pass; counted = s.counted }

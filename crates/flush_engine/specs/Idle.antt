@@ -34,6 +34,10 @@ pub record Asked {W : Type 0} (answer : Bool) (old : PolicyMeaning) (a : Moment 
   pub some : 0 < length a.engine.graph.hung
   pub bars : Bars (length a.engine.graph.hung) answer old new
 
+-- a turn is counted in the ages
+abbrev pub aged : {W : Type 0} → Moment W → Moment W
+aged m = record m { engine = record m.engine { tallies = map older m.engine.tallies } }
+
 module _ {W : Type 0} (T : Telling W) where
   -- a page was picked and written, and the policy was told its edits
   pub record PickDone (old : PolicyMeaning) (a : Moment W) (new : PolicyMeaning) (b : Moment W) : Type 0 where
@@ -123,4 +127,4 @@ module _ {W : Type 0} (T : Telling W) where
       pub turns : Turns barriers result old a new last
       pub passed : Moment W
       pub pass : Pass last passed
-      pub aged : b ≡ record passed { engine = record passed.engine { tallies = map older passed.engine.tallies } }
+      pub counted : b ≡ aged passed

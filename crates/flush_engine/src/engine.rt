@@ -160,8 +160,9 @@ impl Engine {
     /// Writes what a page waits for, and then the page, in waves: while it is dirty or hung, each ready page that is this one or has
     /// a way of Live edges to it, in rising page number, and then a barrier. So after `Ok` the page is neither.
     ///
-    /// It costs the pages from which such a way leads to the page, and their edges, beside moving small elements of sorted vectors;
-    /// each page that is written is found by a search along Live edges from ready pages.
+    /// For each page that it writes, and once more in each wave, it searches along Live edges from ready pages, and costs what these
+    /// lead to, each page and edge once a search; beside it the edges of the pages that are written, and moving small elements of
+    /// sorted vectors.
     pub fn settle<D: Device, W: Watch>(
         &mut self,
         device: &mut D,

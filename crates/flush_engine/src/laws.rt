@@ -1,5 +1,5 @@
 // What holds of engines.
-ghost use Rattle.std.specs.Prelude.{◌≡◌, ℕ, ◌<◌, Bool, false, Result, Ok};
+ghost use Rattle.std.specs.Prelude.{◌≡◌, ℕ, ◌<◌, Bool, true, false, Result, Ok, Err};
 ghost use Rattle.page_device.specs.Block.{Block};
 ghost use Rattle.page_device.specs.Meaning.{Meaning};
 ghost use Rattle.page_cache.specs.View.{CacheView, holds_in};
@@ -9,7 +9,7 @@ ghost use Rattle.page_device.specs.declared.error.Failed.{Failed};
 ghost use Rattle.merge_policy.specs.declared.labels.TheConstants.{HOLD};
 ghost use Rattle.merge_policy.specs.Meaning.{PolicyMeaning};
 ghost use Rattle.flush_engine.specs.View.{EngineView, Fits, IsWhole, Moment};
-ghost use Rattle.flush_engine.specs.Idle.{TurnEnds};
+ghost use Rattle.flush_engine.specs.Idle.{IdleStep, TurnEnds, aged};
 ghost use Rattle.flush_engine.specs.Edits.{touched};
 
 use crate::watch::Watch;
@@ -31,4 +31,12 @@ pub fn lent_parts_fit()
 /// Over the policy that leaves every page, an idle turn changes nothing and answers `false`.
 pub fn hold_writes_nothing<W: Watch>()
     ensures { (result : Result Bool Failed) (old new : PolicyMeaning) (a b : Moment W) → old.label ≡ HOLD → TurnEnds W.told result old a new b → (result ≡ Ok false) × (a ≡ b) × (new.label ≡ HOLD) }
+{}
+
+/// An idle step is made turn by turn. Where nothing is passed on between them, as here, it ends with the turn that answers `false` or
+/// fails, and a turn that answers `true` comes before a step.
+pub fn turns_make_a_step<W: Watch>()
+    ensures last { (old new : PolicyMeaning) (a b : Moment W) → TurnEnds W.told (Ok false) old a new b → IdleStep W.told (λ x y. x ≡ y) (Ok tt) old a new (aged b) }
+    ensures failed { (failed : Failed) (old new : PolicyMeaning) (a b : Moment W) → TurnEnds W.told (Err failed) old a new b → IdleStep W.told (λ x y. x ≡ y) (Err failed) old a new (aged b) }
+    ensures more { (result : Result Unit Failed) (old mid new : PolicyMeaning) (a m b : Moment W) → TurnEnds W.told (Ok true) old a mid m → IdleStep W.told (λ x y. x ≡ y) result mid m new b → IdleStep W.told (λ x y. x ≡ y) result old a new b }
 {}

@@ -19,7 +19,7 @@ mod waves;
 mod writer;
 
 pub use engine::Engine;
-pub use laws::{hold_writes_nothing, lent_parts_fit, touched_is_whole};
+pub use laws::{hold_writes_nothing, lent_parts_fit, touched_is_whole, turns_make_a_step};
 pub use page_device::{Device, Failed, NoMemory, Page};
 pub use tallies::Tally;
 pub use watch::Watch;
