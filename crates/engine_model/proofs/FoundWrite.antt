@@ -54,13 +54,13 @@ module _ (lay : Layout) (top : ℕ) (sound : Bool) (apart : Apart lay) (m : Mome
   }
 
   named : NamesPage lay raised done l o p
-  named = names_page lay top sound apart raised raised_keep l o p name can array
+  named = names_page lay apart raised l o p name can array
 
   last : Frame lay (page_name_reach lay l p) raised done
-  last = page_name_frame lay top sound apart raised raised_keep l o p name can array
+  last = page_name_frame lay apart raised l o p name can array
 
   pub found_keeps : EngineInvariant lay top sound done
-  found_keeps = named_page_keeps lay top sound apart raised raised_keep l o p name can array
+  found_keeps = named_page_keeps lay apart raised l o p name can top sound raised_keep array
       (inl (subst (λ y. Gains m.array array l y) (sym (raise.entries.contents p x.is_data tt ∙ x.holds)) gain))
 
   pub found_frame : Frame lay (both (raise_reach lay p) (page_name_reach lay l p)) m done

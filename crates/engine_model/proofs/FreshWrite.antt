@@ -36,14 +36,14 @@ module _ (lay : Layout) (top : ℕ) (sound : Bool) (apart : Apart lay) (m : Mome
   can = named.can lay top sound apart m k l o p content count print name x
 
   names : NamesPage lay filled done l o p
-  names = names_page lay top sound apart filled (filled_keeps lay top sound apart m k p content count print x.fills) l o p name can array
+  names = names_page lay apart filled l o p name can array
 
   pub fresh_keeps : EngineInvariant lay top sound done
-  fresh_keeps = named_page_keeps lay top sound apart filled (filled_keeps lay top sound apart m k p content count print x.fills) l o p name can array
+  fresh_keeps = named_page_keeps lay apart filled l o p name can top sound (filled_keeps lay top sound apart m k p content count print x.fills) array
       (inl (subst (λ y. Gains m.array array l y) (sym fills.holds) gain))
 
   last : Frame lay (page_name_reach lay l p) filled done
-  last = page_name_frame lay top sound apart filled (filled_keeps lay top sound apart m k p content count print x.fills) l o p name can array
+  last = page_name_frame lay apart filled l o p name can array
 
   pub fresh_frame : Frame lay (both (fill_reach lay p) (page_name_reach lay l p)) m done
   fresh_frame = frame_then lay (fill_reach lay p) (page_name_reach lay l p) m filled done fill last

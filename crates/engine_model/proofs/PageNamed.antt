@@ -36,7 +36,7 @@ name_released lay m n l o lt was page others dirty queue = record {
   pushed = elim (pushed_is (known_at lay m) l o m.world.queue) [ inl z ↦ inl (z.0, queue ∙ z.1) | inr q ↦ inr (q.0, queue ∙ q.1) ];
 }
 
-module _ (lay : Layout) (top : ℕ) (sound : Bool) (apart : Apart lay) (m : Moment) (k : EngineInvariant lay top sound m) (l o p : ℕ) (c : List ℕ) (x : CanNamePage lay m.world l o p c) where
+module _ (lay : Layout) (apart : Apart lay) (m : Moment) (l o p : ℕ) (c : List ℕ) (x : CanNamePage lay m.world l o p c) where
   abbrev M : ℕ
   M = lay.map_page l
 
@@ -54,19 +54,6 @@ module _ (lay : Layout) (top : ℕ) (sound : Bool) (apart : Apart lay) (m : Mome
 
   abbrev ready : Moment
   ready = ready_to_name lay l p m
-
-  count_kind : EdgeKind lay K M
-  count_kind = inl (inr (p, x.is_data, refl), inl (l, x.in_range, refl))
-
-  data_kind : EdgeKind lay D M
-  data_kind = inl (inl (p, x.is_data, refl), inl (l, x.in_range, refl))
-
-  first_keeps : EngineInvariant lay top sound first
-  first_keeps = ordered_keeps lay top sound apart marked (touched_keeps lay top sound apart m k M (map_table lay l x.in_range)) K M count_kind (touched_here m.world M) (or_left _ _ x.dirty) x.opens
-
-  ready_keeps : EngineInvariant lay top sound ready
-  ready_keeps = either_keeps lay top sound apart first first_keeps D M data_kind (touched_here m.world M)
-      (λ h. data_open lay first.world p M apart first_keeps.counts.edge_kinds x.is_data (map_table lay l x.in_range))
 
   same : ready.world.cached ≡ m.world.cached
   same = by_marks first.world D M (ℕ → List ℕ) (λ w. w.cached) refl refl
@@ -98,12 +85,6 @@ module _ (lay : Layout) (top : ℕ) (sound : Bool) (apart : Apart lay) (m : Mome
     abbrev done : Moment
     done = with_page_named lay l o p c array m
 
-    pub named_page_keeps : GainsOrHolds m.array array l (m.world.cached D) → EngineInvariant lay top sound done
-    named_page_keeps gain = named_keeps lay top sound apart ready ready_keeps l o p c can array (subst (λ y. GainsOrHolds m.array array l y) (sym held) gain)
-      where
-        held : held_by lay ready.world p ≡ m.world.cached D
-        held = ap (λ b. cond b lay.zero_block (ready.world.cached D)) (ne_eqb p 0 (λ z. omega (arith, z, x.is_data))) ∙ ap (λ y. y D) same
-
     pub page_name_frame : Frame lay (page_name_reach lay l p) m done
     page_name_frame = frame_then lay (mark_reach M) (both (live_reach K M) (both (edge_reach D M) (name_reach l))) m marked done (touched_frame lay apart m M)
         (frame_then lay (live_reach K M) (both (edge_reach D M) (name_reach l)) marked first done (ordered_frame lay apart marked K M (or_left _ _ x.dirty) (touched_here m.world M))
@@ -117,3 +98,24 @@ module _ (lay : Layout) (top : ℕ) (sound : Bool) (apart : Apart lay) (m : Mome
       count_first = (after_marks first.world D M (touched_here m.world M)).live_kept K M (or_right _ _ (edge_here K M));
       data_first = let o = after_ordered first.world D M in record { dirty = o.dirty; hung = o.hung };
     }
+
+  -- the invariant
+  module _ (top : ℕ) (sound : Bool) (k : EngineInvariant lay top sound m) where
+    count_kind : EdgeKind lay K M
+    count_kind = inl (inr (p, x.is_data, refl), inl (l, x.in_range, refl))
+
+    data_kind : EdgeKind lay D M
+    data_kind = inl (inl (p, x.is_data, refl), inl (l, x.in_range, refl))
+
+    first_keeps : EngineInvariant lay top sound first
+    first_keeps = ordered_keeps lay top sound apart marked (touched_keeps lay top sound apart m k M (map_table lay l x.in_range)) K M count_kind (touched_here m.world M) (or_left _ _ x.dirty) x.opens
+
+    ready_keeps : EngineInvariant lay top sound ready
+    ready_keeps = either_keeps lay top sound apart first first_keeps D M data_kind (touched_here m.world M)
+        (λ h. data_open lay first.world p M apart first_keeps.counts.edge_kinds x.is_data (map_table lay l x.in_range))
+
+    pub named_page_keeps : (array : ℕ → List (List ℕ)) → GainsOrHolds m.array array l (m.world.cached D) → EngineInvariant lay top sound (with_page_named lay l o p c array m)
+    named_page_keeps array gain = named_keeps lay top sound apart ready ready_keeps l o p c can array (subst (λ y. GainsOrHolds m.array array l y) (sym held) gain)
+      where
+        held : held_by lay ready.world p ≡ m.world.cached D
+        held = ap (λ b. cond b lay.zero_block (ready.world.cached D)) (ne_eqb p 0 (λ z. omega (arith, z, x.is_data))) ∙ ap (λ y. y D) same

@@ -19,10 +19,8 @@ pub fn a_discard()
         → EngineInvariant lay top sound m → (l o : ℕ) (c : List ℕ) → CanDiscard lay m.world l o c
         → (array : ℕ → List (List ℕ)) → Gains m.array array l lay.zero_block
         → Discards lay m (with_discard lay l o c array m) l o }
-    ensures frame { (lay : Layout) (top : ℕ) (sound : Bool) → Apart lay → (m : Moment)
-        → EngineInvariant lay top sound m → (l o : ℕ) (c : List ℕ) → CanDiscard lay m.world l o c
-        → (array : ℕ → List (List ℕ)) → Gains m.array array l lay.zero_block
-        → Frame lay (both (mark_reach (lay.map_page l)) (name_reach l)) m (with_discard lay l o c array m) }
+    ensures frame { (lay : Layout) → Apart lay → (m : Moment) (l o : ℕ) (c : List ℕ) → CanDiscard lay m.world l o c
+        → (array : ℕ → List (List ℕ)) → Frame lay (both (mark_reach (lay.map_page l)) (name_reach l)) m (with_discard lay l o c array m) }
     ensures kept { (lay : Layout) (top : ℕ) (sound : Bool) → Apart lay → (m : Moment)
         → EngineInvariant lay top sound m → (l o : ℕ) (c : List ℕ) → CanDiscard lay m.world l o c
         → (array : ℕ → List (List ℕ)) → Gains m.array array l lay.zero_block
@@ -58,12 +56,11 @@ pub fn filled_page_is_nameable()
 /// A block takes the name of a page whose count has one to spare, and the release of the old name is pushed. Its list
 /// gains the content of the page, or has it as its last.
 pub fn name_page()
-    ensures composed { (lay : Layout) (top : ℕ) (sound : Bool) → Apart lay → (m : Moment)
-        → EngineInvariant lay top sound m → (l o p : ℕ) (c : List ℕ) → CanNamePage lay m.world l o p c
-        → (array : ℕ → List (List ℕ)) → NamesPage lay m (with_page_named lay l o p c array m) l o p }
-    ensures frame { (lay : Layout) (top : ℕ) (sound : Bool) → Apart lay → (m : Moment)
-        → EngineInvariant lay top sound m → (l o p : ℕ) (c : List ℕ) → CanNamePage lay m.world l o p c
-        → (array : ℕ → List (List ℕ)) → Frame lay (page_name_reach lay l p) m (with_page_named lay l o p c array m) }
+    ensures composed { (lay : Layout) → Apart lay → (m : Moment) (l o p : ℕ) (c : List ℕ)
+        → CanNamePage lay m.world l o p c → (array : ℕ → List (List ℕ))
+        → NamesPage lay m (with_page_named lay l o p c array m) l o p }
+    ensures frame { (lay : Layout) → Apart lay → (m : Moment) (l o p : ℕ) (c : List ℕ)
+        → CanNamePage lay m.world l o p c → (array : ℕ → List (List ℕ)) → Frame lay (page_name_reach lay l p) m (with_page_named lay l o p c array m) }
     ensures kept { (lay : Layout) (top : ℕ) (sound : Bool) → Apart lay → (m : Moment)
         → EngineInvariant lay top sound m → (l o p : ℕ) (c : List ℕ) → CanNamePage lay m.world l o p c
         → (array : ℕ → List (List ℕ)) → GainsOrHolds m.array array l (m.world.cached (lay.data_page p))
