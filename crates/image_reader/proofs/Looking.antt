@@ -11,21 +11,22 @@ use Rattle.page_device.specs.Possible.{length-overlay}
 use Rattle.image_reader.specs.Looked.{Looked, Holds}
 
 pub looked_none : (d : Meaning) → Looked d d
-looked_none d = record { state = λ _. refl; pages = λ _. refl; log = λ _. refl; kind = record { honest = refl; tells_pages = refl; tells_log = refl; tells_reads = refl } }
+looked_none d = record { state = λ _. refl; pages = λ _. refl; log = λ _. refl; calls = refl; kind = record { honest = refl; tells_pages = refl; tells_log = refl; tells_reads = refl } }
 
 pub looked_then : (a b c : Meaning) → Looked a b → Looked b c → Looked a c
 looked_then a b c h k = record {
   state = λ t. k.state (h.kind.tells_pages ∙ t) ∙ h.state t;
   pages = λ t. k.pages (h.kind.tells_pages ∙ t) ∙ h.pages t;
   log = λ t. k.log (h.kind.tells_log ∙ t) ∙ h.log t;
+  calls = k.calls ∙ h.calls;
   kind = kind_then a b c h.kind k.kind;
 }
 
 pub looked_read : (a b : Meaning) → OneRead a b → Looked a b
-looked_read a b h = record { state = h.state; pages = λ _. h.pages; log = h.log; kind = h.kind }
+looked_read a b h = record { state = h.state; pages = λ _. h.pages; log = h.log; calls = h.calls; kind = h.kind }
 
 pub looked_untouched : (a b : Meaning) → IsUntouched a b → Looked a b
-looked_untouched a b h = record { state = h.state; pages = λ _. h.pages; log = h.log; kind = h.kind }
+looked_untouched a b h = record { state = h.state; pages = λ _. h.pages; log = h.log; calls = h.calls; kind = h.kind }
 
 -- room for no page
 pub looked_room : (a b : Meaning) → Grows 0 a b → Looked a b
@@ -33,6 +34,7 @@ looked_room a b h = record {
   state = λ t. let same : b.pages ≡ a.pages = h.already t (omega arith) in h.state t ∙ ap (λ (n : ℕ). with_room a.state (replicate (n - a.pages) zero_block)) same ∙ sym (state_by_none a.state a.pages a.pages (omega arith));
   pages = λ t. h.already t (omega arith);
   log = h.log;
+  calls = h.calls;
   kind = h.kind;
 }
 

@@ -13,6 +13,7 @@ pub record Looked (old new : Meaning) : Type 0 where
   pub state : old.tells_pages ≡ true → new.state ≡ old.state
   pub pages : old.tells_pages ≡ true → new.pages ≡ old.pages
   pub log : old.tells_log ≡ true → new.log ≡ old.log
+  pub calls : new.calls ≡ old.calls
   pub kind : SameKind old new
 
 -- so many reads were made, where they are told

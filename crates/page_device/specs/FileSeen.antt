@@ -1,15 +1,16 @@
--- What a file tells: its number of pages and its count of faults, and no content.
+-- What a file tells: its number of pages and its counts of faults and of calls, and no content.
 use Rattle.std.specs.Prelude.{◌≡◌, ℕ, [], false, true}
 use Rattle.page_device.specs.Meaning.{Meaning}
 
-abbrev pub file_seen : ℕ → ℕ → Meaning
-file_seen pages faults = record {
+abbrev pub file_seen : ℕ → ℕ → ℕ → Meaning
+file_seen pages faults calls = record {
   honest = false;
   tells_pages = false;
   tells_log = false;
   tells_reads = false;
   pages = pages;
   faults = faults;
+  calls = calls;
   reads = 0;
   state = record { fixed = []; since = [] };
   log = [];

@@ -15,9 +15,10 @@ pub record Meaning : Type 0 where
   pub tells_pages : Bool
   pub tells_log : Bool
   pub tells_reads : Bool
-  -- the number of pages, and the counts of faults and of reads
+  -- the number of pages, and the counts of faults, of write and flush calls, and of reads
   pub pages : ℕ
   pub faults : ℕ
+  pub calls : ℕ
   pub reads : ℕ
   -- its pages, where it tells them
   pub state : DeviceState
@@ -63,6 +64,7 @@ IsCounted m = length m.log + 1 < 2 ^ 64
 pub record OneCall (IsEntry : LogEntry → Type 0) (old new : Meaning) : Type 0 where
   pub entry : LogEntry
   pub is : IsEntry entry
+  pub counted : Rises 1 old.calls new.calls
   pub grows : old.tells_log ≡ true → Rises 1 (length old.log) (length new.log)
   pub log : old.tells_log ≡ true → IsCounted new → new.log ≡ old.log ++ entry ∷ []
   pub state : old.tells_pages ≡ true → new.state ≡ after old.state entry
@@ -72,6 +74,7 @@ pub record OneCall (IsEntry : LogEntry → Type 0) (old new : Meaning) : Type 0 
 
 -- a read counts itself alone
 pub record OneRead (old new : Meaning) : Type 0 where
+  pub calls : new.calls ≡ old.calls
   pub log : old.tells_log ≡ true → new.log ≡ old.log
   pub state : old.tells_pages ≡ true → new.state ≡ old.state
   pub reads : old.tells_reads ≡ true → new.reads ≡ raised old.reads 1
@@ -80,6 +83,7 @@ pub record OneRead (old new : Meaning) : Type 0 where
 
 -- nothing changed but, it may be, the count of faults
 pub record IsUntouched (old new : Meaning) : Type 0 where
+  pub calls : new.calls ≡ old.calls
   pub log : old.tells_log ≡ true → new.log ≡ old.log
   pub state : old.tells_pages ≡ true → new.state ≡ old.state
   pub reads : old.tells_reads ≡ true → new.reads ≡ old.reads
@@ -93,5 +97,6 @@ pub record Grows (asked : ℕ) (old new : Meaning) : Type 0 where
   pub already : old.tells_pages ≡ true → asked ≤ old.pages → new.pages ≡ old.pages
   pub state : old.tells_pages ≡ true → new.state ≡ with_room old.state (replicate (new.pages - old.pages) zero_block)
   pub log : old.tells_log ≡ true → new.log ≡ old.log
+  pub calls : new.calls ≡ old.calls
   pub reads : old.tells_reads ≡ true → new.reads ≡ old.reads
   pub kind : SameKind old new

@@ -14,6 +14,7 @@ telling pages faults reads state log = record {
   tells_reads = true;
   pages = pages;
   faults = faults;
+  calls = length log;
   reads = reads;
   state = state;
   log = log;

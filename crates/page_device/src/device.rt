@@ -30,9 +30,9 @@ pub enum LogEntry {
 /// since the last successful barrier. A read gives the newest one. A crash leaves, for each page by
 /// itself, the fixed content or any one of those written since. `docs/DEFINITIONS.md` reads this aloud.
 ///
-/// Each call that answers `Failed` raises the device's count of faults by one, and no other call changes it. What
-/// a device tells of itself (its pages, its log, its reads) is a meaning that no call changes. A count stands still
-/// at its end.
+/// Each call that answers `Failed` raises the device's count of faults by one, and no other call changes it; each write
+/// and each barrier, failed or not, raises its count of calls by one. What a device tells of itself (its pages, its log,
+/// its reads) is a meaning that no call changes. A count stands still at its end.
 pub trait Device {
     /// What it tells of itself.
     ghost seen: { Self → Meaning };

@@ -1,7 +1,7 @@
 // A file or a block device node as a device. It tells no content: this is the trusted edge.
 ghost use Rattle.std.specs.Prelude.{◌≡◌, ◌<◌, ◌≤◌, ◌+◌, ◌^◌, Some, true, false, slice_get, IsSome, IsOk, IsErr, OnOk, OnErr, IfOk};
 ghost use Rattle.page_device.specs.Disk.{newest};
-ghost use Rattle.page_device.specs.Counts.{OneFault};
+ghost use Rattle.page_device.specs.Counts.{OneFault, Rises};
 ghost use Rattle.page_device.specs.Meaning.{OneCall, OneRead, WriteEntry, FlushEntry, Grows, IsUntouched};
 ghost use Rattle.page_device.specs.FileSeen.{file_seen, no_pages};
 
@@ -48,6 +48,8 @@ pub struct FileDevice<'r, R: Files> {
     lost: bool,
     pages: u32,
     faults: u64,
+    // The writes and barriers that were asked for.
+    calls: u64,
     // Why the first call failed that did, and why nothing was found at the path.
     reason: Option<io::Error>,
     absent: Option<io::Error>,
@@ -134,6 +136,7 @@ where
     pub fn named(rt: &'r R, path: String) -> FileDevice<'r, R>
         ensures pages { result.pages ≡ 0 }
         ensures faults { result.faults ≡ 0 }
+        ensures calls { result.calls ≡ 0 }
     {
         FileDevice {
             rt,
@@ -144,6 +147,7 @@ where
             lost: false,
             pages: 0,
             faults: 0,
+            calls: 0,
             reason: None,
             absent: None,
         }
@@ -172,6 +176,7 @@ where
     fn open(&mut self, makes: bool) -> io::Result<bool>
         ensures pages { self.new.pages ≡ self.old.pages }
         ensures faults { self.new.faults ≡ self.old.faults }
+        ensures calls { self.new.calls ≡ self.old.calls }
         ensures there { IfOk result (λ there. there ≡ true → IsSome self.new.file) }
         ensures makes { IfOk result (λ there. makes ≡ true → there ≡ true) }
         ensures lost { OnOk result (self.new.lost ≡ false) }
@@ -205,6 +210,7 @@ where
     fn make(&mut self) -> io::Result<()>
         ensures pages { self.new.pages ≡ self.old.pages }
         ensures faults { self.new.faults ≡ self.old.faults }
+        ensures calls { self.new.calls ≡ self.old.calls }
         ensures open { OnOk result (IsSome self.new.file) }
         ensures lost { OnOk result (self.new.lost ≡ false) }
         ensures closed { self.old.lost ≡ true → (IsErr result) × (self.new.lost ≡ true) }
@@ -225,6 +231,7 @@ where
     fn take(&mut self, opened: Opened<R::File>) -> io::Result<()>
         ensures pages { self.new.pages ≡ self.old.pages }
         ensures faults { self.new.faults ≡ self.old.faults }
+        ensures calls { self.new.calls ≡ self.old.calls }
         ensures open { OnOk result (IsSome self.new.file) }
         ensures lost { OnOk result (self.new.lost ≡ false) }
         ensures closed { self.old.lost ≡ true → (IsErr result) × (self.new.lost ≡ true) }
@@ -239,6 +246,7 @@ where
     fn grow(&mut self, asked: u32) -> io::Result<u32>
         ensures pages { self.new.pages ≡ self.old.pages }
         ensures faults { self.new.faults ≡ self.old.faults }
+        ensures calls { self.new.calls ≡ self.old.calls }
         ensures enough { IfOk result (λ pages. asked ≤ pages) }
         ensures never_fewer { IfOk result (λ pages. self.old.pages ≤ pages) }
         ensures open { OnOk result (0 < asked → IsSome self.new.file) }
@@ -264,6 +272,7 @@ where
     fn sync(&mut self) -> io::Result<()>
         ensures pages { self.new.pages ≡ self.old.pages }
         ensures faults { self.new.faults ≡ self.old.faults }
+        ensures calls { self.new.calls ≡ self.old.calls }
         ensures unopened { OnOk result (IsSome self.old.file) }
         ensures open { OnOk result (IsSome self.new.file) }
         ensures lost { OnOk result (self.new.lost ≡ false) }
@@ -281,6 +290,15 @@ where
         done
     }
 
+    // Counts a write or a barrier.
+    fn count_call(&mut self)
+        ensures counted { Rises 1 self.old.calls self.new.calls }
+        ensures pages { self.new.pages ≡ self.old.pages }
+        ensures alone { self.new ≡ record self.old { calls = self.new.calls } }
+    {
+        self.calls = self.calls.saturating_add(1);
+    }
+
     // Counts a fault, where there is one, and keeps the reason of the first.
     fn counted(&mut self, done: io::Result<()>) -> Result<(), Failed>
         ensures ok { OnOk result (IsOk done) }
@@ -288,6 +306,7 @@ where
         ensures fails { IsErr result → IsErr done }
         ensures cause { OneFault result self.old.faults self.new.faults }
         ensures pages { self.new.pages ≡ self.old.pages }
+        ensures calls { self.new.calls ≡ self.old.calls }
         ensures lost { self.new.lost ≡ self.old.lost }
         ensures file { self.new.file ≡ self.old.file }
     {
@@ -307,7 +326,7 @@ impl<'r, R: Files> Device for FileDevice<'r, R>
 where
     R::File: PageFile,
 {
-    ghost seen = { λ d. file_seen d.pages d.faults };
+    ghost seen = { λ d. file_seen d.pages d.faults d.calls };
 
     ghost counts = { λ d h. no_pages d.pages h };
 
@@ -317,8 +336,8 @@ where
 
     fn room(&mut self, pages: u32) -> Result<(), Failed>
         ensures cause { OneFault result self.old.faults self.new.faults }
-        ensures grown { OnOk result (Grows pages (file_seen self.old.pages self.old.faults) (file_seen self.new.pages self.new.faults)) }
-        ensures untouched { OnErr result (IsUntouched (file_seen self.old.pages self.old.faults) (file_seen self.new.pages self.new.faults)) }
+        ensures grown { OnOk result (Grows pages (file_seen self.old.pages self.old.faults self.old.calls) (file_seen self.new.pages self.new.faults self.new.calls)) }
+        ensures untouched { OnErr result (IsUntouched (file_seen self.old.pages self.old.faults self.old.calls) (file_seen self.new.pages self.new.faults self.new.calls)) }
         ensures open { OnOk result (0 < pages → IsSome self.new.file) }
         ensures closed { self.old.lost ≡ true → (IsErr result) × (self.new.lost ≡ true) }
     {
@@ -334,8 +353,8 @@ where
     fn read(&mut self, page: u32, into: &mut Page) -> Result<(), Failed>
         requires { page < self.old.pages }
         ensures cause { OneFault result self.old.faults self.new.faults }
-        ensures kept { OneRead (file_seen self.old.pages self.old.faults) (file_seen self.new.pages self.new.faults) }
-        ensures newest { OnOk result (false ≡ true → false ≡ true → slice_get (newest (file_seen self.old.pages self.old.faults).state) page ≡ Some into.new) }
+        ensures kept { OneRead (file_seen self.old.pages self.old.faults self.old.calls) (file_seen self.new.pages self.new.faults self.new.calls) }
+        ensures newest { OnOk result (false ≡ true → false ≡ true → slice_get (newest (file_seen self.old.pages self.old.faults self.old.calls).state) page ≡ Some into.new) }
         ensures closed { self.old.lost ≡ true → (IsErr result) × (self.new.lost ≡ true) }
     {
         if self.lost {
@@ -348,10 +367,11 @@ where
     fn write(&mut self, page: u32, from: &Page) -> Result<(), Failed>
         requires { page < self.old.pages }
         ensures cause { OneFault result self.old.faults self.new.faults }
-        ensures call { OneCall (WriteEntry page from.now result) (file_seen self.old.pages self.old.faults) (file_seen self.new.pages self.new.faults) }
+        ensures call { OneCall (WriteEntry page from.now result) (file_seen self.old.pages self.old.faults self.old.calls) (file_seen self.new.pages self.new.faults self.new.calls) }
         ensures closed { self.old.lost ≡ true → (IsErr result) × (self.new.lost ≡ true) }
         ensures read_only { IsSome self.old.unwritable → IsErr result }
     {
+        self.count_call();
         if self.lost {
             return self.counted(Err(closed()));
         }
@@ -364,11 +384,12 @@ where
 
     fn flush(&mut self) -> Result<(), Failed>
         ensures cause { OneFault result self.old.faults self.new.faults }
-        ensures call { OneCall (FlushEntry result) (file_seen self.old.pages self.old.faults) (file_seen self.new.pages self.new.faults) }
+        ensures call { OneCall (FlushEntry result) (file_seen self.old.pages self.old.faults self.old.calls) (file_seen self.new.pages self.new.faults self.new.calls) }
         ensures unopened { OnOk result (IsSome self.old.file) }
         ensures closed { self.old.lost ≡ true → (IsErr result) × (self.new.lost ≡ true) }
         ensures loses { IsErr result → IsSome self.old.file → self.new.lost ≡ true }
     {
+        self.count_call();
         let done = self.sync();
         self.counted(done)
     }

@@ -14,6 +14,7 @@ use Rattle.session.specs.Session.{Start, start_rules, Close, works_done, Kept}
 -- the same device calls
 pub gains_from : (calls : List LogEntry) (a b c : Meaning) → Looked a b → Gains calls b c → Gains calls a c
 gains_from calls a b c looked h = record {
+  counted = subst (λ (n : ℕ). Rises (length calls) n c.calls) looked.calls h.counted;
   grows = λ t. subst (λ (l : List LogEntry). Rises (length calls) (length l) (length c.log)) (looked.log t) (h.grows (looked.kind.tells_log ∙ t));
   log = λ t few. h.log (looked.kind.tells_log ∙ t) few ∙ ap (λ (l : List LogEntry). l ++ calls) (looked.log t);
   state = λ t. h.state (looked.kind.tells_pages ∙ t) ∙ ap (λ (s : DeviceState). state_after s calls) (looked.state t);
