@@ -18,9 +18,10 @@ use Rattle.engine_model.specs.SmallSteps.{SetsCount, SetsPrint, given_up, ordere
 use Rattle.engine_model.proofs.Passes.{append_one}
 use Rattle.engine_model.proofs.Puts.{puts_count, puts_print}
 use Rattle.engine_model.proofs.Quiet.{count_table, print_table, put_other}
-use Rattle.engine_model.specs.LookingAgain.{ByBarrier, ByRefused, BySmall, ByTaken, ByWrite, LeavesPage, NoStep, OneMore, QuietRun, QuietStep, SparingPass}
+use Rattle.engine_model.specs.LookingAgain.{ByBarrier, ByRefused, BySame, BySmall, ByTaken, ByWrite, LeavesPage, NoStep, OneMore, QuietRun, QuietStep, SparingPass}
 use Rattle.engine_model.specs.SmallPass.{InRange, SmallPass}
 use Rattle.engine_model.proofs.AppliedFrames.{other_slot}
+use Rattle.engine_model.proofs.Same.{same_is}
 use Rattle.engine_model.proofs.StaysBlocked.{applies_blocked, leaves_blocked}
 use Rattle.engine_model.proofs.Ways.{member_in, member_mid, member_right, way_avoids}
 
@@ -176,6 +177,12 @@ module _ (lay : Layout) (top : ℕ) (apart : Apart lay) where
       (lt, is, subst (λ z. IsBlocked lay (known_at lay z) z.world r) (sym e) (refused_blocked lay m r page b))
   quiet_step m n r s lt is (ByBarrier e moved) b = subst (λ x. (x.block < lay.blocks) × IsData lay x.page × IsBlocked lay (known_at lay n) n.world x) (sym moved)
       (lt, is, subst (λ z. IsBlocked lay (known_at lay z) z.world (fixed_release r)) (sym e) (barrier_blocked lay m r b))
+  quiet_step m n r s lt is (BySame same calls e) b = subst (λ x. (x.block < lay.blocks) × IsData lay x.page × IsBlocked lay (known_at lay n) n.world x) (sym e) (
+    lt,
+    is,
+    subst (λ (cs : List Call). IsBlocked lay (record (known_at lay m) { unborn_print = λ p. is_unborn (Print p) (lay.print_page p) 1 cs }) n.world r) (sym calls)
+        (subst (λ (w : World). IsBlocked lay (known_at lay m) w r) (sym (same_is m.world n.world same)) b),
+  )
 
   pub quiet_run : (s : Release) (n m : Moment) (r : Release) → r.block < lay.blocks → IsData lay r.page → QuietRun lay top s n r m → IsBlocked lay (known_at lay m) m.world r
       → IsBlocked lay (known_at lay n) n.world s

@@ -44,8 +44,9 @@ pub fn pass_composes()
         → NoNode o × (o.world.queue ≡ []) }
 {}
 
-/// A pass lowers each count by the releases that left the queue, removes the prints of pages whose count became 0, and
-/// adds edges into count pages; the device, the names and the array stay.
+/// A pass lowers each count by the releases that left the queue, keeps the print of each page that is counted still, and
+/// adds edges into count pages; the device, the names and the array stay. That a page whose count became 0 has no print
+/// follows from the invariant, which `pass_keeps` keeps.
 pub fn pass_effects()
     ensures whole { (lay : Layout) (top : ℕ) (sound : Bool) → Apart lay → (m n : Moment)
         → EngineInvariant lay top sound m → Pass lay m [] m.world.queue n → PassEffects lay m n }
