@@ -79,8 +79,8 @@ module _ {W : Type 0} (T : Telling W) (target : Option ℕ) where
           chain = subst (λ (x : Schedule). Chain T x old new) (sym (map_snoc WritePage s.pages page)) (chain_then T (writes s.pages) (WritePage page ∷ []) old now new s.chain (chain_one T (WritePage page) now new w));
         }
 
-    pub wave_failed : (new : Moment W) (step : Step) → IsNext old.engine.graph target from step → StepFailed T step now new → WaveFailed T target old new
-    wave_failed new step next failed = record { from = from; pages = s.pages; written = s.written; last = now; chain = s.chain; step = step; next = next; failed = failed }
+    pub wave_failed : (new : Moment W) (step : Step) → GoesOn old.engine.graph target → IsNext old.engine.graph target from step → StepFailed T step now new → WaveFailed T target old new
+    wave_failed new step on next failed = record { goes_on = on; from = from; pages = s.pages; written = s.written; last = now; chain = s.chain; step = step; next = next; failed = failed }
 
     -- a wave ends with its barrier
     pub wave_ends : (new : Moment W) (result : Result Unit Failed) → GoesOn old.engine.graph target → IsLeast (IsDue now.engine.graph target) from None → StepEnds T MakeBarrier result now new → WaveEnds T target result old new
@@ -92,7 +92,7 @@ module _ {W : Type 0} (T : Telling W) (target : Option ℕ) where
         chain = chain_then T (writes s.pages) (MakeBarrier ∷ []) old now new s.chain (chain_one T MakeBarrier now new step);
       },
     )
-    wave_ends new (Err _) on least step = wave_failed new MakeBarrier (none_next least) step
+    wave_ends new (Err _) on least step = wave_failed new MakeBarrier on (none_next least) step
 
 -- what a wave makes of the graph
 pub record Waved (pages : List ℕ) (g h : GraphLists) : Type 0 where

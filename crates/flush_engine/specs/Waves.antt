@@ -60,8 +60,9 @@ module _ {W : Type 0} (T : Telling W) (target : Option ℕ) where
     pub due : AreDue old.engine.graph target pages
     pub chain : Chain T (wave_steps pages) old new
 
-  -- a wave that a failure ended
+  -- a wave that a failure ended: as each wave it was made only where one was to be made
   pub record WaveFailed (old new : Moment W) : Type 0 where
+    pub goes_on : GoesOn old.engine.graph target
     pub from : ℕ
     pub pages : List ℕ
     pub written : AreDueBelow old.engine.graph target from pages

@@ -200,6 +200,7 @@ impl Engine {
     /// policy for a barrier, and makes it. `true` exactly where a barrier was made.
     ///
     /// After a failed write the policy is told nothing of it. The ready pages are listed once; each pick moves the offers behind it.
+    /// Of a policy with a label of its own no clause says that it is asked, since nothing is known of what it remembers.
     pub fn idle_turn<D: Device, W: Watch>(
         &mut self,
         device: &mut D,

@@ -28,7 +28,7 @@ loop-page-preserved g c =
 pub returns-in-Err-clause-wave : goal.returns-in-Err-clause-wave
 returns-in-Err-clause-wave g c =
     let step = subst (λ (e : EngineView). WriteFailed g.W.Watch.told c.in-Some.page (at (g.D.Device.seen c.loop-page.device) e c.loop-page.watch) (at (g.D.Device.seen c.write.new.device) c.write.new.self c.write.new.watch)) c.in-Some.ensures.same c.in-Err.ensures.step in
-    wave_failed g.W.Watch.told c.args.target c.loop-page.from _ _ c.loop-page.invariant.so_far _ (WritePage c.in-Some.page) (is_next g.W.Watch.told c.args.target c.loop-page.from _ _ c.loop-page.invariant.so_far c.in-Some.page c.in-Some.ensures.least) step
+    wave_failed g.W.Watch.told c.args.target c.loop-page.from _ _ c.loop-page.invariant.so_far _ (WritePage c.in-Some.page) c.requires.goes_on (is_next g.W.Watch.told c.args.target c.loop-page.from _ _ c.loop-page.invariant.so_far c.in-Some.page c.in-Some.ensures.least) step
 
 pub returns-in-Err-clause-returned : goal.returns-in-Err-clause-returned
 returns-in-Err-clause-returned g c =
