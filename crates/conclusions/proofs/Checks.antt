@@ -23,32 +23,12 @@ use Rattle.session.specs.Statuses.{verdict_line}
 use Rattle.session.specs.Opening.{verdict_status, unread_status}
 use Rattle.session.specs.Endings.{LinePut, put_whole, put_part, LastPut}
 use Rattle.session.specs.Run.{IsReady, NoneDone, CheckOutcome, CheckEnd, checked, unread, new_shape}
-use Rattle.conclusions.proofs.NewImage.{none_below}
 use Rattle.conclusions.proofs.Served.{no_line}
-
-none_summed : (at : ℕ → ℕ) (n : ℕ) → ((k : ℕ) → k < n → at k ≡ 0) → sum_below at n ≡ 0
-unfolding sum_below
-none_summed at zero none = refl
-none_summed at (suc n) none = omega (arith, none n (omega arith), none_summed at n (λ k lt. none k (omega (arith, lt))))
-
--- every count is zero
-none_counted : (image : List Block) → IsNew (new_shape 4 4) image → (p : ℕ) → 1 ≤ p → p ≤ (shape_of image).pages → count_of image p ≡ 0
-none_counted image new p one le = new.tight.exact.counts p one le
-    ∙ none_below (λ block. map_of image block == p) (shape_of image).blocks (λ block lt. ap (λ (n : ℕ). n == p) (new.unmapped block (omega (arith, lt, blocks))) ∙ other p one)
-  where
-    blocks : (shape_of image).blocks ≡ 4
-    blocks = ap (λ (s : ShapeView). s.blocks) new.is
-
-    other : (q : ℕ) → 1 ≤ q → (0 == q) ≡ false
-    other q h = grind (arith, nat_tests)
-
-pub no_waste : (image : List Block) → IsNew (new_shape 4 4) image → waste_of image ≡ 0
-no_waste image new = omega (arith, none_summed (λ k. count_of image (k + 1)) (shape_of image).pages (λ k lt. none_counted image new (k + 1) (omega arith) (omega (arith, lt))))
 
 module _ (d d' : Meaning) (source source' : SourceMeaning) (sink sink' : SinkMeaning) (ready : IsReady d) (new : IsNew (new_shape 4 4) d.state.fixed) where
   told : (found : Verdict) → IsVerdict found (newest d.state) → LinePut (verdict_line found) (verdict_status found) Done sink sink' → Takes (sound_line 0) sink sink'
   told (verdict.Sound waste) is (put_whole _ put) =
-      subst (λ (n : ℕ). Takes (sound_line n) sink sink') (is.1 ∙ ap waste_of (newest_at_rest d.state ready.rest) ∙ no_waste d.state.fixed new) put
+      subst (λ (n : ℕ). Takes (sound_line n) sink sink') (is.1 ∙ ap waste_of (newest_at_rest d.state ready.rest) ∙ new.waste) put
   told (verdict.Sound waste) is (put_part fault _) = absurd (cc fault)
   told (verdict.Damaged damage) is line = absurd (no_line _ (Unsound (verdict.Damaged damage)) sink sink' (λ e. cc e) line)
   told (verdict.LowCount page stored named) is line = absurd (no_line _ (Unsound (verdict.LowCount page stored named)) sink sink' (λ e. cc e) line)
@@ -64,5 +44,5 @@ module _ (d d' : Meaning) (source source' : SourceMeaning) (sink sink' : SinkMea
   new_is_sound h = ⊎_elim (λ none. absurd (no_line _ _ sink sink' (λ e. cc e) none.last_line)) (λ some. by some.0.ended) h
     where
       by : CheckEnd Done d d' sink sink' → Takes (sound_line 0) sink sink'
-      by (checked found is unsound line) = told found (is ready.honest ready.tells_pages) line
+      by (checked found is unsound _ line) = told found (is ready.honest ready.tells_pages) line
       by (unread why cause line) = absurd (not_read why line)

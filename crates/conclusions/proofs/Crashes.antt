@@ -21,9 +21,9 @@ use Rattle.conclusions.specs.Sentences.{LeavesFit, ReadsAllowed}
 -- a device whose log and state stayed leaves the image that it had
 still_fit : (d d' : Meaning) → IsReady d → IsFit d.state.fixed → d'.log ≡ d.log → LeavesFit d d'
 unfolding state_after
-still_fit d d' ready good same calls log k image left =
-    let none : calls ≡ [] = append_cancel_left d.log calls [] (sym log ∙ same ∙ sym (append-nil d.log)) in
-    let at : IsImage (at_rest d.state.fixed) image = subst (λ (s : DeviceState). IsImage s image) (ap (λ (l : List LogEntry). state_after d.state (take k l)) none ∙ nothing_taken k ∙ ready.rest) left in
+still_fit d d' ready good same image left =
+    let none : left.calls ≡ [] = append_cancel_left d.log left.calls [] (sym left.log ∙ same ∙ sym (append-nil d.log)) in
+    let at : IsImage (at_rest d.state.fixed) image = subst (λ (s : DeviceState). IsImage s image) (ap (λ (l : List LogEntry). state_after d.state (take left.k l)) none ∙ nothing_taken left.k ∙ ready.rest) left.left in
     subst IsFit (sym (image_at_rest d.state.fixed image at)) good
   where
     nothing_taken : (n : ℕ) → state_after d.state (take n (let l : List LogEntry = [] in l)) ≡ d.state
@@ -36,19 +36,19 @@ crash_fit status d d' source source' sink sink' ready good tells few h = ⊎_eli
   where
     by : TraceOutcome status d d' source source' sink sink' → LeavesFit d d'
     by (unopened u) = still_fit d d' ready good (u.looked.log tells)
-    by (opened o) = λ calls log k image left.
+    by (opened o) = λ image left.
         let s = o.kept ready fit good in
         let turns = turns_of o.answered.links in
-        let made : calls ≡ calls_of_works fit (start_rules (session_start fit d)) (works_done turns o.answered.close) = append_cancel_left d.log calls _ (sym log ∙ s.gains.log tells few) in
-        (s.survives k image (subst (λ (l : List LogEntry). LeftAt d.state l k image) made left)).good
+        let made : left.calls ≡ calls_of_works fit (start_rules (session_start fit d)) (works_done turns o.answered.close) = append_cancel_left d.log left.calls _ (sym left.log ∙ s.gains.log tells few) in
+        (s.survives left.k image (subst (λ (l : List LogEntry). LeftAt d.state l left.k image) made left.left)).good
 
 -- what a block reads after a crash (a law of array_model)
 abbrev pub CrashReads : Type 0
 CrashReads = (mode : Mode) (rules : Rules) (a : BlockArray) (start : DeviceState) (works : List Work) (k : ℕ) (image : List Block) → SurvivesCrash mode rules a start works → LeftAt start (calls_of_works mode rules works) k image
     → (block : ℕ) → block < rules.blocks → IsAmong (block_of image block) (contents_at mode rules a works k block)
 
-pub reads_allowed : CrashReads → (d d' : Meaning) (source : SourceMeaning) (sink sink' : SinkMeaning) → IsReady d → IsFit d.state.fixed → d.tells_log ≡ true → source.tells ≡ true → DoneSession d d' source sink sink' → ReadsAllowed d d' source.left sink sink'
-reads_allowed law d d' source sink sink' ready good tells source_tells h =
+pub reads_allowed : CrashReads → (d d' : Meaning) (source source' : SourceMeaning) (sink sink' : SinkMeaning) → IsReady d → IsFit d.state.fixed → d.tells_log ≡ true → source.tells ≡ true → DoneSession d d' source source' sink sink' → ReadsAllowed d d' source.left sink sink'
+reads_allowed law d d' source source' sink sink' ready good tells source_tells h =
     let s = h.kept ready fit good in
     let rules = start_rules (session_start fit d) in
     let works = works_done (turns_of h.links) (closed h.calls) in

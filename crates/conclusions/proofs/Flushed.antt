@@ -27,7 +27,8 @@ use Rattle.session.specs.Chain.{turns_of, ArePlain, AreNumbered}
 use Rattle.session.specs.Flat.{DoneSession}
 use Rattle.session.specs.Run.{IsReady, session_start}
 use Rattle.session.specs.Session.{closed, Kept, start_rules, start_state}
-use Rattle.conclusions.specs.Sentences.{IsLeft, PutsThree}
+use Rattle.conclusions.specs.Sentences.{PutsThree}
+use Rattle.page_device.specs.Gains.{IsLeft}
 use Rattle.conclusions.proofs.Turns.{IsOnly, asked_is}
 use Rattle.conclusions.proofs.Arrays.{gained_last}
 
@@ -180,7 +181,7 @@ pub record Flushed (d d' : Meaning) (sink sink' : SinkMeaning) : Type 0 where
   pub puts : PutsThree p q r second sink sink'
   pub reads : p ≡ reply.Done → q ≡ reply.Done → IsCounted d' → (image : List Block) → (left : IsLeft d d' image) → second ≤ left.k → FiveOrSix (block_of image 0)
 
-module _ (stays : Stays) (adds : Adds) (one two three : List ℕ) (o : IsOnly one (Write 0 5)) (f : IsOnly two Flush) (n : IsOnly three (Write 0 6)) (d d' : Meaning) (source : SourceMeaning) (sink sink' : SinkMeaning) (h : DoneSession d d' source sink sink')
+module _ (stays : Stays) (adds : Adds) (one two three : List ℕ) (o : IsOnly one (Write 0 5)) (f : IsOnly two Flush) (n : IsOnly three (Write 0 6)) (d d' : Meaning) (source source' : SourceMeaning) (sink sink' : SinkMeaning) (h : DoneSession d d' source source' sink sink')
     (ready : IsReady d) (good : IsFit d.state.fixed) (log : d.tells_log ≡ true) (tells : sink.tells ≡ true) where
   by : (t u v : Turn) → turns_of h.links ≡ t ∷ u ∷ v ∷ [] → t.line ≡ one → u.line ≡ two → v.line ≡ three → Flushed d d' sink sink'
   unfolding ArePlain AreNumbered texts made

@@ -1,7 +1,8 @@
 -- Formatting, and what is read of a new image.
-use Rattle.std.proofs.Common.{◌≡◌, ◌⊎◌, ⊎_elim, inl, ℕ, ◌<◌, true, refl, sym, ◌∙◌, ap, subst, arith}
+use Rattle.std.proofs.Common.{◌≡◌, ◌⊎◌, ⊎_elim, inl, ℕ, ◌<◌, true, List, length, refl, sym, ◌∙◌, ap, subst, arith}
 use Rattle.byte_ports.specs.Source.{SourceMeaning}
 use Rattle.byte_ports.specs.Sink.{SinkMeaning, Takes}
+use Rattle.page_device.specs.declared.device.LogEntry.{LogEntry}
 use Rattle.page_device.specs.Block.{zero_block}
 use Rattle.page_device.specs.Disk.{DeviceState, IsImage, at_rest}
 use Rattle.page_device.specs.Meaning.{Meaning}
@@ -13,7 +14,7 @@ use Rattle.trace_text.specs.declared.reply.Reply.TheVariants as reply
 use Rattle.trace_text.specs.Texts.{formatted_line}
 use Rattle.array_model.specs.Images.{fit, block_of}
 use Rattle.array_model.specs.Replies.{FitsWith}
-use Rattle.mount_reader.specs.Format.{IsNew}
+use Rattle.mount_reader.specs.Format.{IsNew, AreFormat, zeros_before}
 use Rattle.session.specs.declared.status.Status.TheVariants.{Done, DeviceFault}
 use Rattle.session.specs.Chain.{IsSure, fault_count}
 use Rattle.session.specs.Endings.{LinePut, put_whole, put_part}
@@ -38,7 +39,7 @@ fresh_from blocks pages d d' source source' sink sink' honest tells h = ⊎_elim
     text (put_part is _) = absurd (cc is)
 
     by : FormatOutcome (new_shape blocks pages) Done d d' sink sink' → Fresh blocks pages d' sink sink'
-    by (formatted f line) =
+    by (formatted f _ line) =
         let holds = f.holds honest tells in
         record {
           ready = record { honest = f.formats.kind.honest ∙ honest; tells_pages = f.formats.kind.tells_pages ∙ tells; rest = holds.rest };
@@ -53,3 +54,8 @@ zeros_read d d' answer pages new sure none o =
     let blocks : (shape_of d.state.fixed).blocks ≡ 4 = ap (λ (s : ShapeView). s.blocks) new.is in
     let some : 0 < (shape_of d.state.fixed).blocks = omega (arith, blocks) in
     read_is pages _ answer (o.fits.0 some) sure none ∙ ap reply.Bytes (last_one (block_of d.state.fixed 0) ∙ new.zeros 0 (omega arith))
+
+-- how many calls a formatting of four blocks and four data pages makes
+pub eight_calls : (calls : List LogEntry) → AreFormat (new_shape 4 4) calls → length calls ≡ 8
+unfolding zeros_before
+eight_calls calls are = ap length are.calls_are

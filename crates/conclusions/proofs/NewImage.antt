@@ -30,24 +30,6 @@ use Rattle.conclusions.specs.Sentences.{PutsTwo}
 use Rattle.conclusions.proofs.Turns.{IsOnly, asked_is, two_turns}
 use Rattle.conclusions.proofs.Arrays.{gained_last, read_is}
 
--- nothing counts a data page of a new image
-abbrev one_if : Bool → ℕ
-one_if b = if b then 1 else 0
-
-pub none_below : (test : ℕ → Bool) (n : ℕ) → ((k : ℕ) → k < n → test k ≡ false) → count_below test n ≡ 0
-unfolding count_below
-none_below test zero none = refl
-none_below test (suc n) none =
-    let here : one_if (test n) ≡ 0 = ap one_if (none n (omega arith)) in
-    omega (arith, here, none_below test n (λ k lt. none k (omega (arith, lt))))
-
-nothing_counted : (image : List Block) → IsNew (new_shape 4 4) image → count_of image 1 ≡ 0
-nothing_counted image new =
-    let pages : (shape_of image).pages ≡ 4 = ap (λ (s : ShapeView). s.pages) new.is in
-    let blocks : (shape_of image).blocks ≡ 4 = ap (λ (s : ShapeView). s.blocks) new.is in
-    new.tight.exact.counts 1 (omega arith) (omega (arith, pages))
-    ∙ none_below (λ block. map_of image block == 1) (shape_of image).blocks (λ block lt. ap (λ (n : ℕ). n == 1) (new.unmapped block (omega (arith, lt, blocks))))
-
 -- a write that was answered without a fault, and not for want of a page
 write_done : (pages : ℕ) (r : Reply) → FitsWrite r → IsSure pages r → fault_count r ≡ 0 → ((live waste : ℕ) → r ≡ reply.Full live waste → ⊥) → r ≡ reply.Done
 write_done pages reply.Done fits sure none not_full = refl
@@ -75,14 +57,14 @@ five_read rules s pages t u some wrote done reads sure none fits =
     let fit = subst (λ (asked : Asked). FitsAskedWith (λ block page. page ≡ last a block) rules (after_turn rules s t).unused asked u.answer) reads fits in
     read_is pages (last a 0) u.answer (fit.0 some) sure none ∙ ap (λ (b : BlockArray). reply.Bytes (last b 0)) array ∙ ap reply.Bytes (gained_last s.array 0 (numbered_block 5) (maps rules.version (numbered_block 5)))
 
-module _ (line next : List ℕ) (o : IsOnly line (Write 0 5)) (n : IsOnly next (Read 0)) (d d' : Meaning) (source : SourceMeaning) (sink sink' : SinkMeaning) (h : DoneSession d d' source sink sink')
+module _ (line next : List ℕ) (o : IsOnly line (Write 0 5)) (n : IsOnly next (Read 0)) (d d' : Meaning) (source source' : SourceMeaning) (sink sink' : SinkMeaning) (h : DoneSession d d' source source' sink sink')
     (ready : IsReady d) (new : IsNew (new_shape 4 4) d.state.fixed) (good : IsFit d.state.fixed) (shape : h.shape ≡ new_shape 4 4) (calm : IsCalm d d') (tells : sink.tells ≡ true) where
   -- a full store is refused, since nothing is counted
   not_full : (live waste : ℕ) → NumbersHold (reply.Full live waste) d.state → ⊥
   not_full live waste hold =
       let is : IsImage d.state d.state.fixed = subst (λ (x : DeviceState). IsImage x d.state.fixed) (sym ready.rest) (record { pages = refl; each = λ page block e. inl e }) in
       let pages : (shape_of d.state.fixed).pages ≡ 4 = ap (λ (s : ShapeView). s.pages) new.is in
-      omega (arith, hold.0 d.state.fixed is 1 (omega arith) (omega (arith, pages)), nothing_counted d.state.fixed new)
+      omega (arith, hold.0 d.state.fixed is 1 (omega arith) (omega (arith, pages)), new.uncounted 1 (omega arith) (omega arith))
 
   by : (t u : Turn) → turns_of h.links ≡ t ∷ u ∷ [] → t.line ≡ line → u.line ≡ next → PutsTwo reply.Done (reply.Bytes (numbered_block 5)) d d' sink sink'
   unfolding ArePlain EachAnswer fault_replies AreNumbered turn_calls texts NumbersAt IsRun FitsWith

@@ -26,7 +26,6 @@ use Rattle.session.specs.Opening.{verdict_status, unread_status}
 use Rattle.session.specs.Endings.{LinePut, put_whole, put_part, LastPut}
 use Rattle.session.specs.Run.{IsReady, NoneDone, FormatOutcome, formatted, failed, CheckOutcome, CheckEnd, checked, unread, new_shape}
 use Rattle.conclusions.specs.Sentences.{LeavesPartway, TellsOf}
-use Rattle.conclusions.proofs.Checks.{no_waste}
 
 -- no call was made
 still_partway : (d d' : Meaning) → d'.log ≡ d.log → LeavesPartway d d'
@@ -50,7 +49,7 @@ made_partway d d' tells few leaves image left =
 
 module _ (status : Status) (d d' : Meaning) (source source' : SourceMeaning) (sink sink' : SinkMeaning) (honest : d.honest ≡ true) (tells : d.tells_pages ≡ true) (log : d.tells_log ≡ true) (few : IsCounted d') where
   by_outcome : FormatOutcome (new_shape 4 4) status d d' sink sink' → LeavesPartway d d'
-  by_outcome (formatted f _) = made_partway d d' log few (f.formats.leaves honest tells)
+  by_outcome (formatted f _ _) = made_partway d d' log few (f.formats.leaves honest tells)
   by_outcome (failed _ some _) = ⊎_elim (λ still. still_partway d d' (still.log log)) (λ f. made_partway d d' log few (f.leaves honest tells)) some
 
   pub crash_partway : NoneDone status d d' source source' sink sink' ⊎ (FormatOutcome (new_shape 4 4) status d d' sink sink' × (source' ≡ source)) → LeavesPartway d d'
@@ -85,7 +84,7 @@ module _ (status : Status) (d d' : Meaning) (source source' : SourceMeaning) (si
   zeros_are_told zeros h = ⊎_elim (λ none. inr (put_line _ NoMemory status sink sink' told never none.last_line)) (λ some. by some.0.ended) h
     where
       by : CheckEnd status d d' sink sink' → TellsOf NotFormatted (last_text NotFormatted) status sink sink'
-      by (checked found is unsound line) = absurd (shapeless d.state.fixed zeros (subst HasShape (newest_at_rest d.state ready.rest) (has_shape found (newest d.state) (is ready.honest ready.tells_pages))))
+      by (checked found is unsound _ line) = absurd (shapeless d.state.fixed zeros (subst HasShape (newest_at_rest d.state ready.rest) (has_shape found (newest d.state) (is ready.honest ready.tells_pages))))
       by (unread why cause line) = ⊎_elim (λ said. said.1) (λ none. inr none) (not_read why cause line)
 
   module _ (weaken : (image : List Block) → IsTight image → IsSound image) (new : IsNew (new_shape 4 4) d.state.fixed) where
@@ -93,7 +92,7 @@ module _ (status : Status) (d d' : Meaning) (source source' : SourceMeaning) (si
     sound_now = subst IsSound (sym (newest_at_rest d.state ready.rest)) (weaken d.state.fixed new.tight)
 
     of_verdict : (found : Verdict) → IsVerdict found (newest d.state) → IsUnsound found d → LinePut (verdict_line found) (verdict_status found) status sink sink' → TellsOf Done (sound_line 0) status sink sink'
-    of_verdict (verdict.Sound waste) is unsound line = subst (λ (n : ℕ). TellsOf Done (sound_line n) status sink sink') (is.1 ∙ ap waste_of (newest_at_rest d.state ready.rest) ∙ no_waste d.state.fixed new) (inl (put_line (sound_line waste) Done status sink sink' told never line))
+    of_verdict (verdict.Sound waste) is unsound line = subst (λ (n : ℕ). TellsOf Done (sound_line n) status sink sink') (is.1 ∙ ap waste_of (newest_at_rest d.state ready.rest) ∙ new.waste) (inl (put_line (sound_line waste) Done status sink sink' told never line))
     of_verdict (verdict.Damaged damage) is unsound line = absurd (unsound ready.honest ready.tells_pages sound_now)
     of_verdict (verdict.LowCount page stored named) is unsound line = absurd (unsound ready.honest ready.tells_pages sound_now)
     of_verdict (verdict.WrongPrint page) is unsound line = absurd (unsound ready.honest ready.tells_pages sound_now)
@@ -103,7 +102,7 @@ module _ (status : Status) (d d' : Meaning) (source source' : SourceMeaning) (si
     new_is_told h = ⊎_elim (λ none. inr (put_line _ NoMemory status sink sink' told never none.last_line)) (λ some. by some.0.ended) h
       where
         by : CheckEnd status d d' sink sink' → TellsOf Done (sound_line 0) status sink sink'
-        by (checked found is unsound line) = of_verdict found (is ready.honest ready.tells_pages) unsound line
+        by (checked found is unsound _ line) = of_verdict found (is ready.honest ready.tells_pages) unsound line
         by (unread why cause line) = ⊎_elim (λ said. absurd (said.0 new.fresh.shape)) (λ none. inr none) (not_read why cause line)
 
   -- of each image that may be left

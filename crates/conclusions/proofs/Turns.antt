@@ -58,7 +58,7 @@ pub record OneSaid (shape : ShapeView) (command : Command) (turns : List Turn) (
   pub gains : Gains (turn.calls ++ calls) d d'
   pub put : Takes (text_of turn.at turn.answer) sink sink'
 
-module _ (line : List ℕ) (command : Command) (o : IsOnly line command) (d d' : Meaning) (source : SourceMeaning) (sink sink' : SinkMeaning) (h : DoneSession d d' source sink sink') where
+module _ (line : List ℕ) (command : Command) (o : IsOnly line command) (d d' : Meaning) (source source' : SourceMeaning) (sink sink' : SinkMeaning) (h : DoneSession d d' source source' sink sink') where
   pub one_said : source.tells ≡ true → lines_in source.left ≡ line ∷ [] → OneSaid h.shape command (turns_of h.links) h.calls d d' sink sink'
   unfolding ArePlain EachAnswer fault_replies AreNumbered turn_calls texts
   one_said tells lines =

@@ -3,7 +3,7 @@ use Rattle.std.specs.Prelude.{◌≡◌, ◌⊎◌, ℕ, zero, suc, ◌+◌, ◌
 use Rattle.byte_ports.specs.Source.{SourceMeaning}
 use Rattle.byte_ports.specs.Sink.{SinkMeaning, Takes}
 use Rattle.page_device.specs.Block.{Block}
-use Rattle.page_device.specs.Disk.{LeftAt}
+use Rattle.page_device.specs.Gains.{IsLeft}
 use Rattle.page_device.specs.Meaning.{Meaning, IsCounted}
 use Rattle.page_device.specs.declared.device.LogEntry.{LogEntry}
 use Rattle.page_layout.specs.Tables.{shape_of}
@@ -16,6 +16,7 @@ use Rattle.mount_reader.specs.Format.{MayBePartway, with_pages}
 use Rattle.session.specs.declared.status.Status.{Status}
 use Rattle.session.specs.declared.status.Status.TheVariants.{NoMemory}
 use Rattle.session.specs.Statuses.{last_text}
+use Rattle.session.specs.Endings.{EndsAs}
 use Rattle.session.specs.Session.{closed, start_rules, start_state, works_done}
 use Rattle.session.specs.Run.{new_shape, session_start}
 
@@ -35,9 +36,9 @@ pub record PutsReply (r : Reply) (d d' : Meaning) (sink sink' : SinkMeaning) : T
 
 -- a crash after any number of the device calls that were made leaves a fit image
 abbrev pub LeavesFit : Meaning → Meaning → Type 0
-LeavesFit d d' = (calls : List LogEntry) → d'.log ≡ d.log ++ calls → (k : ℕ) (image : List Block) → LeftAt d.state calls k image → IsFit image
+LeavesFit d d' = (image : List Block) → IsLeft d d' image → IsFit image
 
--- a front of one text for each of the first lines of the input and a last line behind them was put
+-- a front of one text for each of the first lines of the input and a last line behind them was put: one of a session, or there is no text
 pub record PutsFront (source : SourceMeaning) (old new : List ℕ) : Type 0 where
   pub front : List ℕ
   pub rest : List ℕ
@@ -47,6 +48,7 @@ pub record PutsFront (source : SourceMeaning) (old new : List ℕ) : Type 0 wher
   pub texts : AreTexts n replies
   pub few : source.tells ≡ true → n ≤ length (lines_in source.left)
   pub last : Status
+  pub ends : (n ≡ 0) ⊎ EndsAs last
   pub split : replies ++ last_text last ≡ front ++ rest
 
 -- The sink took two texts and no other byte. Where the log is told, it gained the calls of the first turn, those of the second, and more;
@@ -68,17 +70,6 @@ pub record PutsThree (p q r : Reply) (second : ℕ) (sink sink' : SinkMeaning) :
   pub first : ℕ
   pub third : ℕ
   pub held : sink'.held ≡ sink.held ++ (text_of first p ++ (text_of second q ++ text_of third r))
-
--- a count of faults that did not rise, and is not at its end
-abbrev pub StaysUnfaulted : ℕ → ℕ → Type 0
-StaysUnfaulted old new = (new ≡ old) × (old + 1 < 2 ^ 64)
-
--- a crash after some number of the device calls that were made left this image
-pub record IsLeft (d d' : Meaning) (image : List Block) : Type 0 where
-  pub calls : List LogEntry
-  pub log : d'.log ≡ d.log ++ calls
-  pub k : ℕ
-  pub left : LeftAt d.state calls k image
 
 -- the same of a device that is being formatted: room is made first, and each page that comes is zeros then
 abbrev pub IsLeftInFormat : Meaning → Meaning → List Block → Type 0

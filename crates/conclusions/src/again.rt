@@ -5,12 +5,13 @@ ghost use Rattle.cli_words.specs.Grammar.{Means};
 ghost use Rattle.cli_words.specs.declared.jobs.Job.TheVariants as job;
 ghost use Rattle.page_device.specs.Block.{numbered_block};
 ghost use Rattle.page_device.specs.Disk.{IsImage};
+ghost use Rattle.page_device.specs.Gains.{IsLeft};
 ghost use Rattle.page_device.specs.Meaning.{IsCounted};
 ghost use Rattle.array_model.specs.Images.{IsFit, block_of};
 ghost use Rattle.trace_text.specs.declared.reply.Reply.{Reply};
 ghost use Rattle.trace_text.specs.declared.reply.Reply.TheVariants as reply;
 ghost use Rattle.session.specs.Run.{IsReady};
-ghost use Rattle.conclusions.specs.Sentences.{IsLeft, PutsReply, PutsThree};
+ghost use Rattle.conclusions.specs.Sentences.{PutsReply, PutsThree};
 
 use crate::words::serve;
 use array_model::{contents_stay, start_reads, step_adds_what_is_written, works_end};

@@ -3,10 +3,11 @@ ghost use Rattle.std.specs.Prelude.{◌≡◌, true, map, List};
 ghost use Rattle.std.specs.String.{string_bytes};
 ghost use Rattle.cli_words.specs.Grammar.{Means};
 ghost use Rattle.cli_words.specs.declared.jobs.Job.TheVariants as job;
+ghost use Rattle.page_device.specs.Gains.{IsLeft};
 ghost use Rattle.page_device.specs.Meaning.{IsCounted};
 ghost use Rattle.array_model.specs.Images.{IsFit};
 ghost use Rattle.session.specs.Run.{IsReady};
-ghost use Rattle.conclusions.specs.Sentences.{IsLeft, LeavesFit, ReadsAllowed};
+ghost use Rattle.conclusions.specs.Sentences.{LeavesFit, ReadsAllowed};
 
 use crate::words::serve;
 use array_model::crash_reads_a_content;

@@ -1,6 +1,7 @@
 // A new image.
 ghost use Rattle.std.specs.Prelude.{◌≡◌, ◌⊎◌, ℕ, ◌+◌, ◌<◌, ◌^◌, ◌++◌, ◌∷◌, [], true, map, List};
 ghost use Rattle.std.specs.String.{string_bytes};
+ghost use Rattle.byte_ports.specs.Fault.{NoneCounted};
 ghost use Rattle.cli_words.specs.Grammar.{Means};
 ghost use Rattle.cli_words.specs.declared.jobs.Job.TheVariants as job;
 ghost use Rattle.page_device.specs.Block.{numbered_block, zero_block};
@@ -11,7 +12,7 @@ ghost use Rattle.mount_reader.specs.Format.{IsNew};
 ghost use Rattle.session.specs.declared.status.Status.TheVariants.{NoMemory};
 ghost use Rattle.session.specs.Statuses.{last_text};
 ghost use Rattle.session.specs.Run.{IsReady, new_shape};
-ghost use Rattle.conclusions.specs.Sentences.{PutsTwo, StaysUnfaulted};
+ghost use Rattle.conclusions.specs.Sentences.{PutsTwo};
 
 use crate::words::serve;
 use array_model::{images_weaken, works_end};
@@ -37,7 +38,7 @@ pub fn written_block_is_read<S: Source, K: Sink, D: Device>(
     requires source { (S.seen source.old).tells ≡ true }
     requires input { (S.seen source.old).left ≡ 119 ∷ 32 ∷ 48 ∷ 32 ∷ 53 ∷ 10 ∷ 114 ∷ 32 ∷ 48 ∷ 10 ∷ [] }
     requires sink { (K.seen sink.old).tells ≡ true }
-    ensures { StaysUnfaulted (S.seen source.old).faults (S.seen source.new).faults → StaysUnfaulted (K.seen sink.old).faults (K.seen sink.new).faults → IsCalm (D.seen device.old) (D.seen device.new)
+    ensures { NoneCounted (S.seen source.old).faults (S.seen source.new).faults → NoneCounted (K.seen sink.old).faults (K.seen sink.new).faults → IsCalm (D.seen device.old) (D.seen device.new)
         → ((result ≡ Status.Done) × PutsTwo reply.Done (reply.Bytes (numbered_block 5)) (D.seen device.old) (D.seen device.new) (K.seen sink.old) (K.seen sink.new))
         ⊎ ((result ≡ Status.NoMemory) × ((K.seen sink.new).held ≡ (K.seen sink.old).held ++ last_text NoMemory)) }
 {

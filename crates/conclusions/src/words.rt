@@ -25,7 +25,7 @@ pub fn serve<S: Source, K: Sink, D: Device>(
     ensures sink_cause { result ≡ Status.SinkFault → (K.seen sink.old).faults + 1 < 2 ^ 64 → (K.seen sink.old).faults < (K.seen sink.new).faults }
     ensures device_cause { result ≡ Status.DeviceFault → FaultRose (D.seen device.old) (D.seen device.new) }
     ensures session { Session result (D.seen device.old) (D.seen device.new) (S.seen source.old) (S.seen source.new) (K.seen sink.old) (K.seen sink.new) }
-    ensures done { result ≡ Status.Done → DoneSession (D.seen device.old) (D.seen device.new) (S.seen source.old) (K.seen sink.old) (K.seen sink.new) }
+    ensures done { result ≡ Status.Done → DoneSession (D.seen device.old) (D.seen device.new) (S.seen source.old) (S.seen source.new) (K.seen sink.old) (K.seen sink.new) }
     ensures cut { result ≡ Status.SinkFault → CutSession (D.seen device.old) (D.seen device.new) (S.seen source.old) (S.seen source.new) (K.seen sink.old) (K.seen sink.new) }
 {
     session_of_words();

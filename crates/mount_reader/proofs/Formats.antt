@@ -10,14 +10,16 @@ use Rattle.page_device.specs.declared.error.Failed.{Failed}
 use Rattle.page_device.specs.Disk.{DeviceState, IsImage, MayHold, WasWritten, newest, written, settled, at_rest, with_room, state_after}
 use Rattle.page_device.specs.Possible.{Only, only_put, only_other, only_settled, after_holds, settled_holds, settled_image, length-overlay, newest_written}
 use Rattle.page_device.specs.declared.device.LogEntry.{LogEntry}
-use Rattle.page_device.specs.Meaning.{Meaning, SameKind, IsCounted, OneCall, WriteEntry, FlushEntry, Grows}
+use Rattle.page_device.specs.Gains.{Gains}
+use Rattle.page_device.specs.Meaning.{Meaning, SameKind, OneCall, WriteEntry, FlushEntry, Grows}
 use Rattle.page_device.specs.Moments.{EachImage, EachMoment, Leaves, leaves_start, leaves_call, leaves_then}
 use Rattle.page_layout.specs.Shape.{ShapeView, IsSuperblock, total, first_data_page, told_shape}
-use Rattle.page_layout.specs.Tables.{page_of, shape_of, IsFresh}
+use Rattle.page_layout.specs.Tables.{page_of, shape_of, count_of, IsFresh}
+use Rattle.array_model.specs.Counting.{live_of}
 use Rattle.dedup_writer.specs.Put.{Puts, PutsPage, refused, flushed}
 use Rattle.dedup_writer.proofs.Puts.{IsUsable, usable_after, write_state, done_state, flush_state, flushed_state}
-use Rattle.mount_reader.specs.Format.{IsNew, IsUnformatted, IsFormatted, IsOldFrom, MayBePartway, IsLaidOut, HoldsNew, LaysOut, KeepsFrom, IsCleared, Clears, Formats, OnlyWrites, EndsFlushed, with_pages}
-use Rattle.mount_reader.proofs.NewImages.{new_is_tight, no_name, reads_zeros}
+use Rattle.mount_reader.specs.Format.{IsNew, IsUnformatted, IsFormatted, IsOldFrom, MayBePartway, IsLaidOut, HoldsNew, LaysOut, KeepsFrom, IsCleared, Clears, Formats, AreFormat, MakesCalls, with_pages}
+use Rattle.mount_reader.proofs.NewImages.{new_is_tight, no_name, uncounted, no_live, no_waste, reads_zeros}
 
 -- a page of an image is one that may be there
 held : (s : DeviceState) (image : List Block) → IsImage s image → (k : ℕ) → k < length s.fixed → MayHold s k (page_of image k)
@@ -138,6 +140,9 @@ module _ (shape : ShapeView) (super : Block) (is_super : IsSuperblock super) (te
     is = same;
     tight = new_is_tight image fresh;
     unmapped = λ block lt. no_name image fresh block (subst (λ (sh : ShapeView). block < sh.blocks) (sym same) lt);
+    uncounted = λ p one le. uncounted image fresh p one (subst (λ (sh : ShapeView). p ≤ sh.pages) (sym same) le);
+    live = ap (λ (sh : ShapeView). live_of (count_of image) sh.pages) (sym same) ∙ no_live image fresh;
+    waste = no_waste image fresh;
     zeros = λ block lt. reads_zeros image fresh block (subst (λ (sh : ShapeView). block < sh.blocks) (sym same) lt);
   }
 
@@ -357,7 +362,7 @@ module _ (shape : ShapeView) (d0 : Meaning) (u0 : IsUsable d0) (enough : total s
           }
 
 -- from the device before room was made
-module _ (shape : ShapeView) (result : Result Unit Failed) (old mid new : Meaning) (grown : Grows (total shape) old mid) (writes : OnlyWrites mid new)
+module _ (shape : ShapeView) (result : Result Unit Failed) (old mid new : Meaning) (grown : Grows (total shape) old mid) (writes : MakesCalls (AreFormat shape) result mid new)
     (lays : mid.honest ≡ true → mid.tells_pages ≡ true → LaysOut shape result mid new) where
   abbrev roomy : Meaning
   roomy = with_pages old new.pages
@@ -366,14 +371,14 @@ module _ (shape : ShapeView) (result : Result Unit Failed) (old mid new : Meanin
   laid honest tells = lays (grown.kind.honest ∙ honest) (grown.kind.tells_pages ∙ tells)
 
   same_state : old.tells_pages ≡ true → mid.state ≡ roomy.state
-  same_state tells = grown.state tells ∙ ap (λ (n : ℕ). with_room old.state (replicate (n - old.pages) zero_block)) (sym writes.pages)
+  same_state tells = grown.state tells ∙ ap (λ (n : ℕ). with_room old.state (replicate (n - old.pages) zero_block)) (sym writes.only.pages)
 
   same_kind : SameKind old new
   same_kind = record {
-    honest = writes.kind.honest ∙ grown.kind.honest;
-    tells_pages = writes.kind.tells_pages ∙ grown.kind.tells_pages;
-    tells_log = writes.kind.tells_log ∙ grown.kind.tells_log;
-    tells_reads = writes.kind.tells_reads ∙ grown.kind.tells_reads;
+    honest = writes.only.gains.kind.honest ∙ grown.kind.honest;
+    tells_pages = writes.only.gains.kind.tells_pages ∙ grown.kind.tells_pages;
+    tells_log = writes.only.gains.kind.tells_log ∙ grown.kind.tells_log;
+    tells_reads = writes.only.gains.kind.tells_reads ∙ grown.kind.tells_reads;
   }
 
   from_old : old.tells_pages ≡ true → Leaves mid new (MayBePartway shape mid.state) → Leaves roomy new (MayBePartway shape roomy.state)
@@ -386,21 +391,32 @@ module _ (shape : ShapeView) (result : Result Unit Failed) (old mid new : Meanin
     kind = record { honest = same_kind.honest; tells_pages = same_kind.tells_pages; tells_log = same_kind.tells_log; tells_reads = same_kind.tells_reads };
   }
 
+  -- the same calls
+  calls_from_old : (calls : List LogEntry) → Gains calls mid new → Gains calls roomy new
+  calls_from_old calls h = record {
+    counted = subst (λ (n : ℕ). Rises (length calls) n new.calls) grown.calls h.counted;
+    grows = λ t. subst (λ (log : List LogEntry). Rises (length calls) (length log) (length new.log)) (grown.log t) (h.grows (grown.kind.tells_log ∙ t));
+    log = λ t counted. h.log (grown.kind.tells_log ∙ t) counted ∙ ap (λ (log : List LogEntry). log ++ calls) (grown.log t);
+    state = λ t. h.state (grown.kind.tells_pages ∙ t) ∙ ap (λ (s : DeviceState). state_after s calls) (same_state t);
+    kind = record { honest = same_kind.honest; tells_pages = same_kind.tells_pages; tells_log = same_kind.tells_log; tells_reads = same_kind.tells_reads };
+  }
+
   pub formats_from : Formats shape old new
   formats_from = record {
-    enough = omega (arith, grown.enough, writes.pages);
-    never_fewer = omega (arith, grown.never_fewer, writes.pages);
-    already = λ tells le. writes.pages ∙ grown.already tells le;
-    reads = λ tells. writes.reads (grown.kind.tells_reads ∙ tells) ∙ grown.reads tells;
+    enough = omega (arith, grown.enough, writes.only.pages);
+    never_fewer = omega (arith, grown.never_fewer, writes.only.pages);
+    already = λ tells le. writes.only.pages ∙ grown.already tells le;
+    reads = λ tells. writes.only.reads (grown.kind.tells_reads ∙ tells) ∙ grown.reads tells;
     kind = same_kind;
+    made = (writes.calls, calls_from_old writes.calls writes.only.gains);
     leaves = λ honest tells. from_old tells (laid honest tells).leaves;
   }
 
-  pub formatted_from : result ≡ Ok tt → (mid.tells_log ≡ true → IsCounted new → EndsFlushed mid new) → IsFormatted shape old new
-  formatted_from ok ends = record {
+  pub formatted_from : result ≡ Ok tt → IsFormatted shape old new
+  formatted_from ok = record {
     formats = formats_from;
-    flushed = λ tells counted.
-        let e = ends (grown.kind.tells_log ∙ tells) counted in
-        record { front = e.front; made = omega (arith, e.made, ap length (grown.log tells)); log = e.log };
+    calls = writes.calls;
+    are = writes.done ok;
+    gains = calls_from_old writes.calls writes.only.gains;
     holds = λ honest tells. subst (λ (s : DeviceState). HoldsNew shape s new.state) (same_state tells) ((laid honest tells).done ok);
   }

@@ -1,12 +1,12 @@
 // A new image is laid out.
 ghost use Rattle.std.specs.Prelude.{◌≡◌, ◌↔◌, ◌⊎◌, ◌≤◌, ◌<◌, true, length, Ok, Err};
 ghost use Rattle.page_device.specs.Block.{zero_block};
-ghost use Rattle.page_device.specs.Meaning.{HasCause, IsUntouched, IsCounted};
+ghost use Rattle.page_device.specs.Counts.{OneFault, raised};
+ghost use Rattle.page_device.specs.Meaning.{IsUntouched};
 ghost use Rattle.page_device.specs.Possible.{Only};
-ghost use Rattle.page_layout.specs.Shape.{total};
-ghost use Rattle.page_device.specs.Meaning.{FaultRose};
+ghost use Rattle.page_layout.specs.Shape.{total, first_data_page};
 ghost use Rattle.dedup_writer.specs.Put.{PutsPage};
-ghost use Rattle.mount_reader.specs.Format.{LaysOut, Clears, Formats, IsFormatted, OnlyWrites, EndsFlushed};
+ghost use Rattle.mount_reader.specs.Format.{LaysOut, Clears, Formats, IsFormatted, MakesCalls, AreFormat, zeros_before};
 
 use page_device::{Device, Failed, Page};
 use page_layout::{Shape, super_page};
@@ -23,7 +23,7 @@ pub enum FormatError {
 // Writes a page and makes a barrier. Stops at the first that fails.
 fn put<D: Device>(device: &mut D, page: u32, from: &Page) -> Result<(), Failed>
     requires { page < (D.seen device.old).pages }
-    ensures cause { HasCause result (D.seen device.old) (D.seen device.new) }
+    ensures cause { OneFault result (D.seen device.old).faults (D.seen device.new).faults }
     ensures pages { (D.seen device.new).pages ≡ (D.seen device.old).pages }
     ensures puts { PutsPage page from.now result (D.seen device.old) (D.seen device.new) }
 {
@@ -36,8 +36,8 @@ fn put<D: Device>(device: &mut D, page: u32, from: &Page) -> Result<(), Failed>
 // Writes zeros to each table page.
 fn clear_tables<D: Device>(device: &mut D, shape: &Shape) -> Result<(), Failed>
     requires { total shape.now ≤ (D.seen device.old).pages }
-    ensures cause { HasCause result (D.seen device.old) (D.seen device.new) }
-    ensures writes { OnlyWrites (D.seen device.old) (D.seen device.new) }
+    ensures cause { OneFault result (D.seen device.old).faults (D.seen device.new).faults }
+    ensures writes { MakesCalls (λ calls. calls ≡ zeros_before (first_data_page shape.now)) result (D.seen device.old) (D.seen device.new) }
     ensures clears { (D.seen device.old).honest ≡ true → (D.seen device.old).tells_pages ≡ true → Only (D.seen device.old).state 0 zero_block → Clears shape.now result (D.seen device.old) (D.seen device.new) }
 {
     let zero = Page::zero();
@@ -55,9 +55,8 @@ fn clear_tables<D: Device>(device: &mut D, shape: &Shape) -> Result<(), Failed>
 fn lay_out<D: Device>(device: &mut D, shape: &Shape) -> Result<(), Failed>
     requires pages { total shape.now ≤ (D.seen device.old).pages }
     requires version { shape.now.version ≡ 1 }
-    ensures cause { HasCause result (D.seen device.old) (D.seen device.new) }
-    ensures writes { OnlyWrites (D.seen device.old) (D.seen device.new) }
-    ensures flushed { result ≡ Ok tt → (D.seen device.old).tells_log ≡ true → IsCounted (D.seen device.new) → EndsFlushed (D.seen device.old) (D.seen device.new) }
+    ensures cause { OneFault result (D.seen device.old).faults (D.seen device.new).faults }
+    ensures writes { MakesCalls (AreFormat shape.now) result (D.seen device.old) (D.seen device.new) }
     ensures lays_out { (D.seen device.old).honest ≡ true → (D.seen device.old).tells_pages ≡ true → LaysOut shape.now result (D.seen device.old) (D.seen device.new) }
 {
     match put(device, 0, &Page::zero()) {
@@ -85,7 +84,8 @@ fn lay_out<D: Device>(device: &mut D, shape: &Shape) -> Result<(), Failed>
 pub fn format<D: Device>(blocks: u32, pages: u32, device: &mut D) -> Result<(), FormatError>
     ensures bad_shape { result ≡ Err FormatError.BadShape ↔ ¬ ((1 ≤ blocks) × (blocks ≤ 4194304) × (1 ≤ pages) × (pages ≤ 1048576)) }
     ensures nothing { result ≡ Err FormatError.BadShape → device.new ≡ device.old }
-    ensures cause { result ≡ Err FormatError.Device → FaultRose (D.seen device.old) (D.seen device.new) }
+    ensures cause { result ≡ Err FormatError.Device → (D.seen device.new).faults ≡ raised (D.seen device.old).faults 1 }
+    ensures calm { result ≡ Ok tt → (D.seen device.new).faults ≡ (D.seen device.old).faults }
     ensures never_falls { (D.seen device.old).faults ≤ (D.seen device.new).faults }
     ensures failed { result ≡ Err FormatError.Device → IsUntouched (D.seen device.old) (D.seen device.new) ⊎ Formats (record { blocks = blocks; pages = pages; version = 1 }) (D.seen device.old) (D.seen device.new) }
     ensures done { result ≡ Ok tt → IsFormatted (record { blocks = blocks; pages = pages; version = 1 }) (D.seen device.old) (D.seen device.new) }

@@ -16,11 +16,12 @@ use Rattle.session.specs.Statuses.{last_text}
 use Rattle.session.specs.Opening.{mount_status}
 use Rattle.session.specs.Chain.{Link, turns_of}
 use Rattle.session.specs.Session.{Close, none, failed, Closes}
-use Rattle.session.specs.Endings.{LinePut, put_whole, put_part, TextsPut, AtEnd, AllRead, CutAt, at_line, at_rest, TextCut, Ended, all_done, closing_failed, source_failed, limit_reached, sink_failed}
+use Rattle.session.specs.Endings.{LinePut, put_whole, put_part, TextsPut, AtEnd, AllRead, CutAt, at_line, at_rest, TextCut, Ended, all_done, closing_failed, source_failed, limit_reached, sink_failed, Course}
 use Rattle.session.specs.Run.{TraceOutcome, unopened, opened, Opened}
 use Rattle.session.specs.Flat.{Session}
 use Rattle.session.specs.Stopped.{LineCut, CutWhere, at_start, at_opening, at_text, at_source, at_limit, at_close, CutSession}
 use Rattle.session.proofs.Lines.{lines_longer}
+use Rattle.session.proofs.Numbered.{failed_rose}
 use Rattle.session.proofs.Stops.{unclosed, has_failed, made}
 
 -- these are the first lines of the input
@@ -96,17 +97,18 @@ module _ (d d' : Meaning) (source source' : SourceMeaning) (sink sink' : SinkMea
         let course = o.answered.course in
         let closes : Closes (failed calls) course.last course.final = subst (λ (x : Close). Closes x course.last course.final) is course.closes in
         with_line DeviceFault (all_first bytes (lines_of (turns_of links)) source source' o.answered.gives read.end read.lines) c
-        (at_close bytes calls refl (made SinkFault d d' source source' sink sink' o (failed calls) is) closes.1 o.answered.gives read c)
+        (at_close bytes calls refl (made SinkFault d d' source source' sink sink' o (failed calls) is) closes.1
+        (failed_rose d o.first links calls d' (subst (λ (x : Close). Course o.first links x d') is course) o.falls) o.answered.gives read c)
 
     cut_opened : Ended bytes (turns_of links) o.answered.close SinkFault source source' sink sink' → CutSession d d' source source' sink sink'
     cut_opened (all_done is _ _ _) = absurd (cc is)
     cut_opened (closing_failed is read put) =
         let close = has_failed o.answered.close is in
         at_its_close read close.0 close.1 (line_cut (turns_of links) DeviceFault sink sink' (λ is. cc is) put)
-    cut_opened (source_failed is read few put) =
+    cut_opened (source_failed is read few failed_then put) =
         let c = line_cut (turns_of links) SourceFault sink sink' (λ is. cc is) put in
         with_line SourceFault (some_first bytes (lines_of (turns_of links)) source source' o.answered.gives read.lines) c
-        (at_source bytes refl (made SinkFault d d' source source' sink sink' o none (unclosed o.answered.close is)) o.answered.gives read few c)
+        (at_source bytes refl (made SinkFault d d' source source' sink sink' o none (unclosed o.answered.close is)) o.answered.gives read few failed_then c)
     cut_opened (limit_reached is read many put) =
         let c = line_cut (turns_of links) InputLimit sink sink' (λ is. cc is) put in
         with_line InputLimit (some_first bytes (lines_of (turns_of links)) source source' o.answered.gives read.lines) c

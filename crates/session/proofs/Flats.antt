@@ -22,7 +22,7 @@ use Rattle.session.specs.Endings.{LinePut, put_whole, put_part, Ended, all_done,
 use Rattle.session.specs.Run.{IsReady, NoneDone, TraceOutcome, unopened, opened, Opened, session_start}
 use Rattle.session.specs.Flat.{DoneSession, Session, EndsOverFit}
 use Rattle.session.proofs.Opened.{gains_from}
-use Rattle.session.proofs.Numbered.{chain_numbered, closed_gains, closed_calm}
+use Rattle.session.proofs.Numbered.{chain_numbered, course_gains, closed_calm, closing_done}
 
 no_line : (text : List ℕ) (wanted : Status) (old new : SinkMeaning) → (Done ≡ wanted → ⊥) → LinePut text wanted Done old new → ⊥
 no_line text wanted old new apart (put_whole is _) = apart is
@@ -41,10 +41,10 @@ calls_closed (closed calls) is = (calls, refl)
 calls_closed (failed calls) is = absurd is
 
 module _ (d d' : Meaning) (source source' : SourceMeaning) (sink sink' : SinkMeaning) where
-  from_opened : (o : Opened Done d d' source source' sink sink') → DoneSession d d' source sink sink'
+  from_opened : (o : Opened Done d d' source source' sink sink') → DoneSession d d' source source' sink sink'
   from_opened o = by o.answered.ended
     where
-      by : Ended o.answered.bytes (turns_of o.answered.links) o.answered.close Done source source' sink sink' → DoneSession d d' source sink sink'
+      by : Ended o.answered.bytes (turns_of o.answered.links) o.answered.close Done source source' sink sink' → DoneSession d d' source source' sink sink'
       by (all_done _ is read put) =
           let close = calls_closed o.answered.close is in
           let course = subst (λ (c : Close). Course o.first o.answered.links c d') close.1 o.answered.course in
@@ -55,26 +55,30 @@ module _ (d d' : Meaning) (source source' : SourceMeaning) (sink sink' : SinkMea
             fit = o.fit;
             links = o.answered.links;
             calls = close.0;
+            bytes = bytes;
+            gives = o.answered.gives;
+            read = read;
             input = λ tells. read.lines ∙ ap lines_in (sym (append-nil bytes) ∙ ap (λ (l : List ℕ). bytes ++ l) (sym (read.end.nothing_left (o.answered.gives.tells ∙ tells))) ∙ sym (o.answered.gives.left tells));
             plain = o.plain;
             sure = o.sure;
             faulted = o.faulted;
             put = put;
             numbered = subst (λ (n : ℕ). AreNumbered n (turns_of o.answered.links)) o.first_calls (chain_numbered o.answered.links o.first course.last course.chain (omega (arith, o.first_calls)));
-            gains = gains_from _ d o.first.device d' o.looked (closed_gains o.first o.answered.links close.0 d' course);
+            gains = gains_from _ d o.first.device d' o.looked (course_gains o.first o.answered.links (closed close.0) d' course);
+            done = closing_done d o.first o.answered.links close.0 d' course o.falls;
             kept = λ ready mode good. subst (λ (c : Close). Kept (session_start mode d) (turns_of o.answered.links) c d') close.1 (o.kept ready mode good);
             counted = λ ready. subst (λ (c : Close). IsTold d o.answered.links c d') close.1 (o.counted ready);
             calm = λ ready calm. closed_calm d o.first o.answered.links close.0 d' course (o.looked.kind.tells_pages ∙ ready.tells_pages) (o.looked.state ready.tells_pages) o.falls (o.counted ready).told calm;
           }
       by (closing_failed _ _ put) = absurd (no_line _ _ put.after_texts sink' (λ is. cc is) put.last_line)
-      by (source_failed _ _ _ put) = absurd (no_line _ _ put.after_texts sink' (λ is. cc is) put.last_line)
+      by (source_failed _ _ _ _ put) = absurd (no_line _ _ put.after_texts sink' (λ is. cc is) put.last_line)
       by (limit_reached _ _ _ put) = absurd (no_line _ _ put.after_texts sink' (λ is. cc is) put.last_line)
       by (sink_failed _ _ is) = absurd (cc is)
 
-  pub done_flat : Session Done d d' source source' sink sink' → DoneSession d d' source sink sink'
+  pub done_flat : Session Done d d' source source' sink sink' → DoneSession d d' source source' sink sink'
   done_flat h = ⊎_elim (λ none. absurd (no_line _ _ sink sink' (λ is. cc is) none.last_line)) by h
     where
-      by : TraceOutcome Done d d' source source' sink sink' → DoneSession d d' source sink sink'
+      by : TraceOutcome Done d d' source source' sink sink' → DoneSession d d' source source' sink sink'
       by (unopened u) = absurd (no_line _ (mount_status u.why) sink sink' (not_mounted u.why) u.last_line)
       by (opened o) = from_opened o
 
@@ -146,7 +150,7 @@ module _ (d d' : Meaning) (source source' : SourceMeaning) (sink sink' : SinkMea
       ended : (bytes : List ℕ) (turns : List Turn) (close : Close) → source.left ≡ bytes ++ source'.left → Ended bytes turns close InputLimit source source' sink sink' → input_limit ≤ length source.left
       ended bytes turns close left (all_done is _ _ _) = absurd (cc is)
       ended bytes turns close left (closing_failed _ _ put) = absurd (apart _ DeviceFault put.after_texts (λ is. cc is) put.last_line)
-      ended bytes turns close left (source_failed _ _ _ put) = absurd (apart _ SourceFault put.after_texts (λ is. cc is) put.last_line)
+      ended bytes turns close left (source_failed _ _ _ _ put) = absurd (apart _ SourceFault put.after_texts (λ is. cc is) put.last_line)
       ended bytes turns close left (limit_reached _ _ many _) = omega (arith, many, ap length left, length-append bytes source'.left)
       ended bytes turns close left (sink_failed _ _ is) = absurd (cc is)
 

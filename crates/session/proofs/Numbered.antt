@@ -1,14 +1,16 @@
 -- What the turns of a session are by themselves: their device calls, their numbers, and what their replies say.
-use Rattle.std.proofs.Common.{◌≡◌, ℕ, ◌+◌, ◌<◌, ◌≤◌, ◌^◌, true, List, [], ◌∷◌, ◌++◌, length, refl, sym, ◌∙◌, ap, subst, arith, min}
+use Rattle.std.proofs.Common.{◌≡◌, ℕ, ◌+◌, ◌<◌, ◌≤◌, ◌^◌, true, ⊎_elim, List, [], ◌∷◌, ◌++◌, length, refl, sym, ◌∙◌, ap, subst, arith, min}
+use Rattle.std.proofs.lemmas.Bool.{cases_lt}
 use Rattle.page_device.specs.declared.device.LogEntry.{LogEntry}
 use Rattle.page_device.specs.Disk.{DeviceState, state_after}
 use Rattle.page_device.specs.Faults.{IsCalm}
 use Rattle.page_device.specs.Gains.{Gains, gains_none, gains_then}
-use Rattle.page_device.specs.Meaning.{Meaning}
+use Rattle.page_device.specs.Meaning.{Meaning, FaultRose}
 use Rattle.dedup_writer.specs.Core.{calls_in}
+use Rattle.dedup_writer.specs.Calls.{AllDone, IsUndone, EndUndone}
 use Rattle.session.specs.Answers.{Moment}
 use Rattle.session.specs.Chain.{Link, IsChain, turns_of, turn_calls, AreNumbered, NumbersHold, NumbersAt, AreTold}
-use Rattle.session.specs.Session.{closed}
+use Rattle.session.specs.Session.{Close, none, closed, failed, close_calls, Closes}
 use Rattle.session.specs.Endings.{Course}
 use Rattle.session.proofs.Chains.{step_does, chain_falls}
 
@@ -26,11 +28,34 @@ chain_numbered (link ∷ links) from to chain low =
     let counted = (step_does from link chain.0 chain.1).counted.counted low in
     (number ∙ counted, subst (λ (n : ℕ). AreNumbered n (turns_of links)) (sym number) (chain_numbered links link.after to chain.2 (omega (arith, counted))))
 
--- the device calls of a session that was closed
-pub closed_gains : (first : Moment) (links : List Link) (calls : List LogEntry) (d : Meaning) → Course first links (closed calls) d → Gains (turn_calls (turns_of links) ++ calls) first.device d
-closed_gains first links calls d c = subst (Gains (turn_calls (turns_of links) ++ calls) first.device) c.device
-    (gains_then (turn_calls (turns_of links)) calls first.device c.last.device c.final.device (chain_gains links first c.last c.chain)
-    (subst (λ (l : List LogEntry). Gains l c.last.device c.final.device) c.closes.calls_are c.closes.call.gains))
+-- the device calls of a closing, and of a session with it
+closing_made : (close : Close) (last final : Moment) → Closes close last final → Gains (close_calls close) last.device final.device
+closing_made none last final h = subst (λ (m : Moment). Gains [] last.device m.device) (sym h) (gains_none last.device)
+closing_made (closed calls) last final h = subst (λ (l : List LogEntry). Gains l last.device final.device) h.calls_are h.call.gains
+closing_made (failed calls) last final h = subst (λ (l : List LogEntry). Gains l last.device final.device) h.0.calls_are h.0.call.gains
+
+pub course_gains : (first : Moment) (links : List Link) (close : Close) (d : Meaning) → Course first links close d → Gains (turn_calls (turns_of links) ++ close_calls close) first.device d
+course_gains first links close d c = subst (Gains (turn_calls (turns_of links) ++ close_calls close) first.device) c.device
+    (gains_then (turn_calls (turns_of links)) (close_calls close) first.device c.last.device c.final.device (chain_gains links first c.last c.chain) (closing_made close c.last c.final c.closes))
+
+-- a list of calls of which the last did not end `Done` is not one of calls that did
+last_done : (front : List LogEntry) (last : LogEntry) → AllDone (front ++ last ∷ []) → IsUndone last → ⊥
+unfolding AllDone
+last_done [] last done undone = done.0 undone
+last_done (entry ∷ front) last done undone = last_done front last done.1 undone
+
+-- a closing flush that failed: a fault was counted
+pub failed_rose : (d : Meaning) (first : Moment) (links : List Link) (calls : List LogEntry) (d' : Meaning) → Course first links (failed calls) d' → d.faults ≤ first.device.faults → FaultRose d d'
+failed_rose d first links calls d' c falls few =
+    let flush = c.closes.0.call in
+    let rest : c.final.device.faults ≡ d'.faults = ap (λ (m : Meaning). m.faults) c.device in
+    let chained = chain_falls first c.last links c.chain in
+    ⊎_elim (λ risen. risen)
+    (λ still.
+    let calm : IsCalm c.last.device c.final.device = record { same = omega (arith, still, falls, chained, flush.falls, rest); few = omega (arith, few, still, falls, chained, flush.falls, rest) } in
+    let end = c.closes.1 in
+    absurd (last_done end.front end.last (subst AllDone (c.closes.0.calls_are ∙ end.split) (flush.calm calm)) end.undone))
+    (cases_lt d.faults d'.faults)
 
 -- no fault was counted: what each reply says is so
 module _ (start : Meaning) where
@@ -55,3 +80,11 @@ module _ (start : Meaning) where
       let rest : c.last.device.faults ≤ d.faults = omega (arith, c.closes.call.falls, ap (λ (m : Meaning). m.faults) c.device) in
       let chained = chain_falls first c.last links c.chain in
       chain_calm links first c.last start.state c.chain tells is falls (record { same = omega (arith, falls, chained, rest, calm.same); few = calm.few }) told
+
+  -- the closing flush, too
+  pub closing_done : (first : Moment) (links : List Link) (calls : List LogEntry) (d : Meaning) → Course first links (closed calls) d → start.faults ≤ first.device.faults → IsCalm start d → AllDone calls
+  closing_done first links calls d c falls calm =
+      let flush = c.closes.call in
+      let rest : c.final.device.faults ≡ d.faults = ap (λ (m : Meaning). m.faults) c.device in
+      let chained = chain_falls first c.last links c.chain in
+      subst AllDone c.closes.calls_are (flush.calm (record { same = omega (arith, falls, chained, flush.falls, rest, calm.same); few = omega (arith, falls, chained, flush.falls, rest, calm.same, calm.few) }))

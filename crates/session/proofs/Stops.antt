@@ -1,10 +1,10 @@
 -- One record for each status of a session that stopped.
-use Rattle.std.proofs.Common.{◌≡◌, ◌⊎◌, inl, inr, ⊎_elim, ℕ, List, ◌++◌, refl, sym, ◌∙◌, ap, subst}
+use Rattle.std.proofs.Common.{◌≡◌, ◌⊎◌, inl, inr, ⊎_elim, ℕ, List, ◌++◌, length, refl, sym, ◌∙◌, ap, subst, arith}
 use Rattle.byte_ports.specs.Source.{SourceMeaning}
 use Rattle.byte_ports.specs.Sink.{SinkMeaning, Takes, takes_then}
 use Rattle.page_device.specs.declared.device.LogEntry.{LogEntry}
 use Rattle.page_device.specs.Meaning.{Meaning}
-use Rattle.array_model.specs.Turns.{Turn, ended_lines, lines_in, lines_of, texts}
+use Rattle.array_model.specs.Turns.{Turn, texts}
 use Rattle.dedup_writer.specs.Calls.{EndUndone}
 use Rattle.mount_reader.specs.declared.error.MountError.{MountError}
 use Rattle.mount_reader.specs.declared.error.MountError.TheVariants as error
@@ -12,15 +12,17 @@ use Rattle.session.specs.declared.status.Status.{Status}
 use Rattle.session.specs.declared.status.Status.TheVariants.{Done, SourceFault, SinkFault, DeviceFault, NotFormatted, Unsound, NoMemory, InputLimit}
 use Rattle.session.specs.Statuses.{last_text}
 use Rattle.session.specs.Opening.{mount_status}
-use Rattle.session.specs.Chain.{Link, turns_of}
+use Rattle.session.specs.Chain.{Link, turns_of, AreNumbered}
 use Rattle.session.specs.Session.{Close, none, closed, failed, Closes, Kept}
-use Rattle.session.specs.Endings.{LinePut, put_whole, put_part, TextsPut, Ended, all_done, closing_failed, source_failed, limit_reached, sink_failed, IsUnclosed, HasFailed, EndsAs}
+use Rattle.session.specs.Endings.{LinePut, put_whole, put_part, TextsPut, Ended, all_done, closing_failed, source_failed, limit_reached, sink_failed, IsUnclosed, HasFailed, AllRead, SomeRead, SourceFailed, Course, EndsAs}
 use Rattle.session.specs.Run.{NoneDone, TraceOutcome, unopened, Unopened, opened, Opened, session_start}
 use Rattle.session.specs.Flat.{Session}
-use Rattle.session.specs.Stopped.{TurnsMade, StoppedSession, FailedClose, NotOpened}
+use Rattle.session.proofs.Opened.{gains_from}
+use Rattle.session.proofs.Numbered.{chain_numbered, course_gains, failed_rose}
+use Rattle.session.specs.Stopped.{TurnsMade, TakenUntil, StoppedSession, FailedClose, NotOpened}
 
 -- the last line of a status that is not the sink's was put whole
-whole_line : (text : List ℕ) (wanted status : Status) (old new : SinkMeaning) → (status ≡ SinkFault → ⊥) → LinePut text wanted status old new → (status ≡ wanted) × Takes text old new
+pub whole_line : (text : List ℕ) (wanted status : Status) (old new : SinkMeaning) → (status ≡ SinkFault → ⊥) → LinePut text wanted status old new → (status ≡ wanted) × Takes text old new
 whole_line text wanted status old new other (put_whole is taken) = (is, taken)
 whole_line text wanted status old new other (put_part is part) = absurd (other is)
 
@@ -51,21 +53,23 @@ module _ (status : Status) (d d' : Meaning) (source source' : SourceMeaning) (si
     plain = o.plain;
     sure = o.sure;
     faulted = o.faulted;
+    numbered = subst (λ (n : ℕ). AreNumbered n (turns_of links)) o.first_calls (chain_numbered links o.first o.answered.course.last o.answered.course.chain (omega (arith, o.first_calls)));
+    gains = gains_from _ d o.first.device d' o.looked (course_gains o.first links close d' (subst (λ (c : Close). Course o.first links c d') is o.answered.course));
     kept = λ ready mode good. subst (λ (c : Close). Kept (session_start mode d) (turns_of links) c d') is (o.kept ready mode good);
   }
 
   -- it stopped between two lines
-  pub stopped : (wanted : Status) → IsUnclosed o.answered.close → (lines_are : lines_of (turns_of links) ≡ ended_lines o.answered.bytes) → source'.ends ≡ source.ends → Takes (texts (turns_of links) ++ last_text wanted) sink sink'
+  pub stopped : (wanted : Status) → IsUnclosed o.answered.close → SomeRead o.answered.bytes (turns_of links) source source' → (wanted ≡ SourceFault → SourceFailed source source') → TakenUntil wanted (length o.answered.bytes) → Takes (texts (turns_of links) ++ last_text wanted) sink sink'
       → StoppedSession wanted d d' source source' sink sink'
-  stopped wanted is lines not_end put = record { links = links; made = made none (unclosed o.answered.close is); bytes = o.answered.bytes; gives = o.answered.gives; lines = lines; put = put; not_end = not_end }
+  stopped wanted is read source_cause taken put = record { links = links; made = made none (unclosed o.answered.close is); bytes = o.answered.bytes; gives = o.answered.gives; read = read; source_failed = source_cause; taken = taken; put = put }
 
   -- its closing flush failed
-  pub not_closed : HasFailed o.answered.close → lines_of (turns_of links) ≡ lines_in o.answered.bytes → Takes (texts (turns_of links) ++ last_text DeviceFault) sink sink' → FailedClose d d' source source' sink sink'
-  not_closed is lines put =
+  pub not_closed : HasFailed o.answered.close → AllRead o.answered.bytes (turns_of links) source source' → Takes (texts (turns_of links) ++ last_text DeviceFault) sink sink' → FailedClose d d' source source' sink sink'
+  not_closed is read put =
       let close = has_failed o.answered.close is in
       let course = o.answered.course in
       let closes : Closes (failed close.0) course.last course.final = subst (λ (c : Close). Closes c course.last course.final) close.1 course.closes in
-      record { links = links; calls = close.0; made = made (failed close.0) close.1; undone = closes.1; bytes = o.answered.bytes; gives = o.answered.gives; lines = lines; put = put }
+      record { links = links; calls = close.0; made = made (failed close.0) close.1; undone = closes.1; fault = failed_rose d o.first links close.0 d' (subst (λ (c : Close). Course o.first links c d') close.1 course) o.falls; bytes = o.answered.bytes; gives = o.answered.gives; read = read; put = put }
 
 module _ (d d' : Meaning) (source source' : SourceMeaning) (sink sink' : SinkMeaning) where
   -- the source failed
@@ -81,7 +85,7 @@ module _ (d d' : Meaning) (source source' : SourceMeaning) (sink sink' : SinkMea
       ended : (o : Opened SourceFault d d' source source' sink sink') → Ended o.answered.bytes (turns_of o.answered.links) o.answered.close SourceFault source source' sink sink' → StoppedSession SourceFault d d' source source' sink sink'
       ended o (all_done is _ _ _) = absurd (cc is)
       ended o (closing_failed _ _ put) = absurd (cc (whole_texts DeviceFault SourceFault (turns_of o.answered.links) sink sink' (λ is. cc is) put).0)
-      ended o (source_failed is read _ put) = stopped SourceFault d d' source source' sink sink' o SourceFault is read.lines read.not_end (whole_texts SourceFault SourceFault (turns_of o.answered.links) sink sink' (λ is. cc is) put).1
+      ended o (source_failed is read few source_cause put) = stopped SourceFault d d' source source' sink sink' o SourceFault is read (λ _. source_cause) few (whole_texts SourceFault SourceFault (turns_of o.answered.links) sink sink' (λ is. cc is) put).1
       ended o (limit_reached _ _ _ put) = absurd (cc (whole_texts InputLimit SourceFault (turns_of o.answered.links) sink sink' (λ is. cc is) put).0)
       ended o (sink_failed _ _ is) = absurd (cc is)
 
@@ -102,8 +106,8 @@ module _ (d d' : Meaning) (source source' : SourceMeaning) (sink sink' : SinkMea
       ended : (o : Opened InputLimit d d' source source' sink sink') → Ended o.answered.bytes (turns_of o.answered.links) o.answered.close InputLimit source source' sink sink' → StoppedSession InputLimit d d' source source' sink sink'
       ended o (all_done is _ _ _) = absurd (cc is)
       ended o (closing_failed _ _ put) = absurd (cc (whole_texts DeviceFault InputLimit (turns_of o.answered.links) sink sink' (λ is. cc is) put).0)
-      ended o (source_failed _ _ _ put) = absurd (cc (whole_texts SourceFault InputLimit (turns_of o.answered.links) sink sink' (λ is. cc is) put).0)
-      ended o (limit_reached is read _ put) = stopped InputLimit d d' source source' sink sink' o InputLimit is read.lines read.not_end (whole_texts InputLimit InputLimit (turns_of o.answered.links) sink sink' (λ is. cc is) put).1
+      ended o (source_failed _ _ _ _ put) = absurd (cc (whole_texts SourceFault InputLimit (turns_of o.answered.links) sink sink' (λ is. cc is) put).0)
+      ended o (limit_reached is read many put) = stopped InputLimit d d' source source' sink sink' o InputLimit is read (λ other. absurd (cc other)) many (whole_texts InputLimit InputLimit (turns_of o.answered.links) sink sink' (λ is. cc is) put).1
       ended o (sink_failed _ _ is) = absurd (cc is)
 
       by : TraceOutcome InputLimit d d' source source' sink sink' → StoppedSession InputLimit d d' source source' sink sink'
@@ -138,8 +142,8 @@ module _ (d d' : Meaning) (source source' : SourceMeaning) (sink sink' : SinkMea
     where
       ended : (o : Opened DeviceFault d d' source source' sink sink') → Ended o.answered.bytes (turns_of o.answered.links) o.answered.close DeviceFault source source' sink sink' → FailedClose d d' source source' sink sink'
       ended o (all_done is _ _ _) = absurd (cc is)
-      ended o (closing_failed is read put) = not_closed DeviceFault d d' source source' sink sink' o is read.lines (whole_texts DeviceFault DeviceFault (turns_of o.answered.links) sink sink' (λ is. cc is) put).1
-      ended o (source_failed _ _ _ put) = absurd (cc (whole_texts SourceFault DeviceFault (turns_of o.answered.links) sink sink' (λ is. cc is) put).0)
+      ended o (closing_failed is read put) = not_closed DeviceFault d d' source source' sink sink' o is read (whole_texts DeviceFault DeviceFault (turns_of o.answered.links) sink sink' (λ is. cc is) put).1
+      ended o (source_failed _ _ _ _ put) = absurd (cc (whole_texts SourceFault DeviceFault (turns_of o.answered.links) sink sink' (λ is. cc is) put).0)
       ended o (limit_reached _ _ _ put) = absurd (cc (whole_texts InputLimit DeviceFault (turns_of o.answered.links) sink sink' (λ is. cc is) put).0)
       ended o (sink_failed _ _ is) = absurd (cc is)
 

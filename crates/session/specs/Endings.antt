@@ -1,5 +1,5 @@
 -- How a session ends, and what it has done then: the promise.
-use Rattle.std.specs.Prelude.{◌≡◌, ℕ, ◌<◌, ◌≤◌, true, List, [], ◌∷◌, ◌++◌, length, Result, Ok, Err}
+use Rattle.std.specs.Prelude.{◌≡◌, ℕ, ◌+◌, ◌<◌, ◌≤◌, ◌^◌, true, List, [], ◌∷◌, ◌++◌, length, Result, Ok, Err}
 use Rattle.byte_ports.specs.Source.{SourceMeaning, Gives}
 use Rattle.byte_ports.specs.Sink.{SinkMeaning, Takes, TakesFront}
 use Rattle.page_device.specs.Counts.{raised}
@@ -101,11 +101,15 @@ HasFailed none = ⊥
 HasFailed (closed calls) = ⊥
 HasFailed (failed calls) = Unit {0}
 
+-- the source counted a fault; a count at its end may stand still
+abbrev pub SourceFailed : SourceMeaning → SourceMeaning → Type 0
+SourceFailed source source' = source.faults + 1 < 2 ^ 64 → source.faults < source'.faults
+
 -- the ways in which a session over a store ends
 pub data Ended (bytes : List ℕ) (turns : List Turn) (close : Close) (status : Status) (source source' : SourceMeaning) (old new : SinkMeaning) : Type 0 where
   all_done : status ≡ Done → IsClosed close → AllRead bytes turns source source' → Takes (texts turns) old new → Ended bytes turns close status source source' old new
   closing_failed : HasFailed close → AllRead bytes turns source source' → TextsPut DeviceFault status turns old new → Ended bytes turns close status source source' old new
-  source_failed : IsUnclosed close → SomeRead bytes turns source source' → length bytes < input_limit → TextsPut SourceFault status turns old new → Ended bytes turns close status source source' old new
+  source_failed : IsUnclosed close → SomeRead bytes turns source source' → length bytes < input_limit → SourceFailed source source' → TextsPut SourceFault status turns old new → Ended bytes turns close status source source' old new
   limit_reached : IsUnclosed close → SomeRead bytes turns source source' → length bytes ≡ input_limit → TextsPut InputLimit status turns old new → Ended bytes turns close status source source' old new
   sink_failed : IsUnclosed close → TextCut bytes turns source source' old new → status ≡ SinkFault → Ended bytes turns close status source source' old new
 

@@ -8,3 +8,4 @@ pub mod Opening
 pub mod Run
 pub mod Flat
 pub mod Stopped
+pub mod Jobs

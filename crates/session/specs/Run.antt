@@ -4,7 +4,7 @@ use Rattle.byte_ports.specs.Source.{SourceMeaning}
 use Rattle.byte_ports.specs.Sink.{SinkMeaning}
 use Rattle.page_device.specs.Disk.{at_rest}
 use Rattle.page_device.specs.Meaning.{Meaning, IsUntouched}
-use Rattle.page_layout.specs.Shape.{ShapeView}
+use Rattle.page_layout.specs.Shape.{ShapeView, first_data_page}
 use Rattle.cli_words.specs.Grammar.{Means}
 use Rattle.cli_words.specs.declared.jobs.Job.{Job}
 use Rattle.cli_words.specs.declared.jobs.Job.TheVariants as job
@@ -15,14 +15,15 @@ use Rattle.dedup_writer.specs.Core.{shape_in, calls_in}
 use Rattle.session.specs.Answers.{Moment, shape_rules}
 use Rattle.session.specs.Chain.{turns_of, ArePlain, EachAnswer, IsSure, FaultsCounted}
 use Rattle.session.specs.Session.{Start, Kept, IsTold}
-use Rattle.page_device.specs.Meaning.{FaultRose}
+use Rattle.page_device.specs.Counts.{raised}
 use Rattle.session.specs.declared.status.Status.{Status}
 use Rattle.session.specs.declared.status.Status.TheVariants.{Done, Usage, DeviceFault, NoMemory}
-use Rattle.image_reader.specs.Looked.{Looked, Holds, TellsShape}
+use Rattle.image_reader.specs.Looked.{Looked, Holds, Reads, TellsShape}
 use Rattle.mount_reader.specs.declared.error.MountError.{MountError}
 use Rattle.mount_reader.specs.Mount.{MountCause, IsRefusal}
 use Rattle.image_check.specs.declared.verdict.Verdict.{Verdict}
 use Rattle.image_check.specs.declared.verdict.CheckError.{CheckError}
+use Rattle.image_check.specs.Reads.{AtMost, reads_of}
 use Rattle.image_check.specs.Verdicts.{CheckCause, IsUnsound, IsVerdict}
 use Rattle.trace_text.specs.Texts.{formatted_line}
 use Rattle.session.specs.Statuses.{verdict_line}
@@ -55,8 +56,8 @@ pub record IsReady (d : Meaning) : Type 0 where
 abbrev pub session_start : Mode → Meaning → Start
 session_start mode d = record { mode = mode; array = array_start d.state.fixed; shape = shape_of d.state.fixed; at = 0; device = d }
 
--- The image was opened, and a session served over it. Over whatever device: the store that was opened has the shape that page 0
--- told, and had made no device call; these bytes were taken, and these turns answer their lines; each reply fits but for the contents
+-- The image was opened, and a session served over it. Over whatever device: page 0 and each table page were read once, where reads
+-- are told; the store that was opened has the shape that page 0 told, and had made no device call; these bytes were taken, and these turns answer their lines; each reply fits but for the contents
 -- of blocks, and the device counted each `fault`. And over an honest device that tells its pages and has nothing pending, from the
 -- array of its image, which is good in this mode: what `Kept` says, and the numbers.
 pub record Opened (status : Status) (d d' : Meaning) (source source' : SourceMeaning) (sink sink' : SinkMeaning) : Type 0 where
@@ -67,6 +68,7 @@ pub record Opened (status : Status) (d d' : Meaning) (source source' : SourceMea
   pub first : Moment
   pub looked : Looked d first.device
   pub falls : d.faults ≤ first.device.faults
+  pub reads : Reads (first_data_page shape) d first.device
   pub first_shape : shape_in first.store ≡ shape
   pub first_calls : calls_in first.store ≡ 0
   pub answered : Answered (record { moment = first; sink = sink }) status d' source source' sink'
@@ -85,21 +87,22 @@ pub data TraceOutcome (status : Status) (d d' : Meaning) (source source' : Sourc
 abbrev pub new_shape : ℕ → ℕ → ShapeView
 new_shape blocks pages = record { blocks = blocks; pages = pages; version = 1 }
 
--- what formatting a device does: there is the new image, and its line was put; or the device counted a fault, and the last line of
--- it was put
+-- what formatting a device does: there is the new image, no fault was counted, and its line was put; or the device counted one fault,
+-- and the last line of it was put
 pub data FormatOutcome (shape : ShapeView) (status : Status) (d d' : Meaning) (sink sink' : SinkMeaning) : Type 0 where
-  formatted : IsFormatted shape d d' → LinePut (formatted_line shape.blocks shape.pages) Done status sink sink' → FormatOutcome shape status d d' sink sink'
-  failed : FaultRose d d' → IsUntouched d d' ⊎ Formats shape d d' → LastPut DeviceFault status sink sink' → FormatOutcome shape status d d' sink sink'
+  formatted : IsFormatted shape d d' → d'.faults ≡ d.faults → LinePut (formatted_line shape.blocks shape.pages) Done status sink sink' → FormatOutcome shape status d d' sink sink'
+  failed : d'.faults ≡ raised d.faults 1 → IsUntouched d d' ⊎ Formats shape d d' → LastPut DeviceFault status sink sink' → FormatOutcome shape status d d' sink sink'
 
--- how a check ends: with a verdict, which is another one than sound only of an image that is not sound, and its line; or with the
--- last line of why the image can't be checked
+-- how a check ends: with a verdict, which is another one than sound only of an image that is not sound, so many reads, and its line; or
+-- with the last line of why the image can't be checked
 pub data CheckEnd (status : Status) (d d' : Meaning) (sink sink' : SinkMeaning) : Type 0 where
-  checked : (found : Verdict) → Holds (IsVerdict found) d → IsUnsound found d → LinePut (verdict_line found) (verdict_status found) status sink sink' → CheckEnd status d d' sink sink'
+  checked : (found : Verdict) → Holds (IsVerdict found) d → IsUnsound found d → Holds (λ image. Reads (reads_of found image) d d') d → LinePut (verdict_line found) (verdict_status found) status sink sink' → CheckEnd status d d' sink sink'
   unread : (why : CheckError) → CheckCause why d d' → LastPut (unread_status why) status sink sink' → CheckEnd status d d' sink sink'
 
--- what a check does: the device is only looked at
+-- what a check does: the device is only looked at, and read at most as often as it has pages
 pub record CheckOutcome (status : Status) (d d' : Meaning) (sink sink' : SinkMeaning) : Type 0 where
   pub looked : Looked d d'
+  pub few : AtMost d'.pages d d'
   pub ended : CheckEnd status d d' sink sink'
 
 -- there was no memory before anything was done

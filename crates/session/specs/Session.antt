@@ -43,6 +43,12 @@ Closes none from to = to ≡ from
 Closes (closed calls) from to = FlushesBy true calls from to
 Closes (failed calls) from to = FlushesBy false calls from to × EndUndone calls
 
+-- the device calls of the closing
+abbrev pub close_calls : Close → List LogEntry
+close_calls none = []
+close_calls (closed calls) = calls
+close_calls (failed calls) = calls
+
 -- over an array: where the session began, with the mode of the image, the shape, and the number of device calls so far
 pub record Start : Type 0 where
   pub mode : Mode

@@ -25,7 +25,7 @@ pub fn session_of_words()
 
 /// A session that ended with status 0.
 pub fn done_session()
-    ensures { (d e : Meaning) (source source2 : SourceMeaning) (sink sink2 : SinkMeaning) → Session Done d e source source2 sink sink2 → DoneSession d e source sink sink2 }
+    ensures { (d e : Meaning) (source source2 : SourceMeaning) (sink sink2 : SinkMeaning) → Session Done d e source source2 sink sink2 → DoneSession d e source source2 sink sink2 }
 {}
 
 /// A session that ended with status 4: the first lines of its input were answered, and the sink has a front of their texts
@@ -34,7 +34,8 @@ pub fn cut_session()
     ensures { (d e : Meaning) (source source2 : SourceMeaning) (sink sink2 : SinkMeaning) → Session SinkFault d e source source2 sink sink2 → CutSession d e source source2 sink sink2 }
 {}
 
-/// A session that ended with status 3 or 8: the lines that had ended were answered.
+/// A session that ended with status 3, and then the source counted a fault, or 8: the lines that had ended were
+/// answered.
 pub fn stopped_session()
     ensures source { (d e : Meaning) (source source2 : SourceMeaning) (sink sink2 : SinkMeaning) → Session SourceFault d e source source2 sink sink2 → StoppedSession SourceFault d e source source2 sink sink2 }
     ensures limit { (d e : Meaning) (source source2 : SourceMeaning) (sink sink2 : SinkMeaning) → Session InputLimit d e source source2 sink sink2 → StoppedSession InputLimit d e source source2 sink sink2 }

@@ -30,6 +30,8 @@ pub fn serve_trace<S: Source, K: Sink, D: Device>(
 ) -> Status
     requires { Fits store.old (D.seen device.old) }
     ensures never_falls { (D.seen device.old).faults ≤ (D.seen device.new).faults }
+    ensures source_rises { (S.seen source.old).faults ≤ (S.seen source.new).faults }
+    ensures sink_rises { (K.seen sink.old).faults ≤ (K.seen sink.new).faults }
     ensures source_cause { result ≡ Status.SourceFault → (S.seen source.old).faults + 1 < 2 ^ 64 → (S.seen source.old).faults < (S.seen source.new).faults }
     ensures sink_cause { result ≡ Status.SinkFault → (K.seen sink.old).faults + 1 < 2 ^ 64 → (K.seen sink.old).faults < (K.seen sink.new).faults }
     ensures device_cause { result ≡ Status.DeviceFault → FaultRose (D.seen device.old) (D.seen device.new) }
@@ -58,6 +60,9 @@ enum Stop {
     // As many bytes were taken as one session may take.
     Limit,
 }
+
+// What ends a line.
+const LINE_END: u8 = b'\n';
 
 // The most bytes that one session takes, and the most that are taken at once.
 const LIMIT: u64 = 1_099_511_627_776;
@@ -121,7 +126,7 @@ fn answer_byte<K: Sink, D: Device>(
     ensures cause { CountsFault result (K.seen sink.old).faults (K.seen sink.new).faults }
     ensures goes { (b : Begin) (bytes : List ℕ) → Goes b bytes (byte ∷ []) result line.old line.new (at store.old (D.seen device.old)) (at store.new (D.seen device.new)) (K.seen sink.old) (K.seen sink.new) }
 {
-    if byte != b'\n' {
+    if byte != LINE_END {
         line.push(byte);
         return Ok(());
     }

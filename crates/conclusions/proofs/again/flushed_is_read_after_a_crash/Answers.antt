@@ -24,13 +24,13 @@ returns g c = λ is.
     let o = only_of _ (Write 0 5) c.parse-first.result is_write_five refl c.parse-first.ensures.only in
     let f = only_of _ Flush c.parse-flush.result is_flush refl c.parse-flush.ensures.only in
     let n = only_of _ (Write 0 6) c.parse-second.result is_write_six refl c.parse-second.ensures.only in
-    let s = flushed_session c.contents_stay.ensures c.step_adds_what_is_written.ensures _ _ _ o f n d d' source sink sink' h ready good c.requires.log c.requires.sink c.requires.source (ap lines_in c.requires.input ∙ write_flush_write) in (
+    let s = flushed_session c.contents_stay.ensures c.step_adds_what_is_written.ensures _ _ _ o f n d d' source _ sink sink' h ready good c.requires.log c.requires.sink c.requires.source (ap lines_in c.requires.input ∙ write_flush_write) in (
       s.p,
       s.q,
       s.r,
       s.second,
       s.puts,
       λ done flushed few rested left behind read.
-          let fit_again = crash_fit c.serve-status.result d d' source source' sink sink' ready good c.requires.log few c.serve-status.ensures.session left.calls left.log left.k e.state.fixed left.left in
+          let fit_again = crash_fit c.serve-status.result d d' source source' sink sink' ready good c.requires.log few c.serve-status.ensures.session e.state.fixed left in
           same_or_other _ _ (s.reads done flushed few e.state.fixed left behind) (c.read_first.ensures read rested fit_again),
     )

@@ -21,7 +21,7 @@ returns g c = λ is.
     let ready = c.requires.device in
     let good = subst IsFit (newest_at_rest d.state ready.rest) (h.fit ready.honest ready.tells_pages) in
     let only = only_of _ (Write 0 5) c.parse.result is_write_five refl c.parse.ensures.only in
-    let o = one_said _ (Write 0 5) only d d' source sink sink' h c.requires.source (ap lines_in c.requires.input ∙ write_five) in
+    let o = one_said _ (Write 0 5) only d d' source _ sink sink' h c.requires.source (ap lines_in c.requires.input ∙ write_five) in
     let s = session_start fit d in
     let over = one_over c.works_end.ensures s (turns_of h.links) o.turn h.calls (Write 0 5) d' refl (lit< tt) ready.tells_pages o.one o.asked (h.kept ready fit good) in (
       o.turn.answer,

@@ -13,5 +13,5 @@ returns g c = λ few left next_few.
     let sink = g.K.Sink.seen c.args.sink.now in
     let sink' = g.K.Sink.seen c.serve-first.new.sink in
     let sink2 = g.K.Sink.seen c.serve-second.new.sink in
-    let good = crash_fit c.serve-first.result d d' source source' sink sink' c.requires.device c.requires.fit c.requires.log few c.serve-first.ensures.session left.calls left.log left.k e.state.fixed left.left in
+    let good = crash_fit c.serve-first.result d d' source source' sink sink' c.requires.device c.requires.fit c.requires.log few c.serve-first.ensures.session e.state.fixed left in
     crash_fit c.serve-second.result e e' source' source2 sink' sink2 c.requires.later good c.requires.later_log next_few c.serve-second.ensures.session

@@ -53,5 +53,5 @@ returns g c = λ source_calm sink_calm calm.
     let shape = sym (h.told ready.honest ready.tells_pages).is ∙ ap shape_of newest ∙ c.requires.image.is in
     let o = only_of _ (Write 0 5) c.parse-write.result is_write_five refl c.parse-write.ensures.only in
     let n = only_of _ (Read 0) c.parse-read.result is_read_zero refl c.parse-read.ensures.only in
-    inl (is, five_put _ _ o n d d' source sink sink' h ready c.requires.image good shape calm c.requires.sink c.requires.source (ap lines_in c.requires.input ∙ write_and_read)))
+    inl (is, five_put _ _ o n d d' source _ sink sink' h ready c.requires.image good shape calm c.requires.sink c.requires.source (ap lines_in c.requires.input ∙ write_and_read)))
     (λ is. inr (is, (c.memory_session.ensures.put d d' source source' sink sink' (subst (λ (s : Status). Session s d d' source source' sink sink') is serve.session)).held c.requires.sink))

@@ -15,5 +15,5 @@ returns g c = λ is same few.
     let sink' = g.K.Sink.seen c.serve.new.sink in
     let h = c.serve.ensures.done is in
     let only = only_of _ Flush c.parse.result is_flush refl c.parse.ensures.only in
-    let o = one_said _ Flush only d d' source sink sink' h c.requires.source (ap lines_in c.requires.input ∙ a_flush) in
+    let o = one_said _ Flush only d d' source _ sink sink' h c.requires.source (ap lines_in c.requires.input ∙ a_flush) in
     puts_reply h.shape Flush (turns_of h.links) h.calls d d' sink sink' o reply.Done c.requires.sink (flush_is_done h.shape (turns_of h.links) h.calls d d' sink sink' same few o)

@@ -16,6 +16,6 @@ returns g c = λ is.
     let sink' = g.K.Sink.seen c.serve.new.sink in
     let h = c.serve.ensures.done is in
     let only = only_of _ (Read 4) c.parse.result is_read_four refl c.parse.ensures.only in
-    let o = one_said _ (Read 4) only d d' source sink sink' h c.requires.source (ap lines_in c.requires.input ∙ read_four) in
+    let o = one_said _ (Read 4) only d d' source _ sink sink' h c.requires.source (ap lines_in c.requires.input ∙ read_four) in
     let four : h.shape.blocks ≡ 4 = ap (λ (s : ShapeView). s.blocks) (sym (h.told c.requires.honest c.requires.pages).is) ∙ c.requires.blocks in
     puts_reply h.shape (Read 4) (turns_of h.links) h.calls d d' sink sink' o reply.Range c.requires.sink (past_the_end h.shape (turns_of h.links) h.calls d d' sink sink' four o)

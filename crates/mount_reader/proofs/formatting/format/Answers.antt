@@ -19,4 +19,4 @@ returns-in-Ok-lay_out-clause-done g c = λ _.
     let mid = g.D.Device.seen c.room.new.self in
     let new = g.D.Device.seen c.lay_out.new.device in
     let grown : Grows (total c.in-Ok.shape) d mid = subst (λ (n : ℕ). Grows n d mid) c.total.ensures c.in-Ok-room.ensures.grown in
-    subst (λ (shape : ShapeView). IsFormatted shape d new) c.in-Ok.ensures.shape (formatted_from c.in-Ok.shape c.lay_out.result d mid new grown c.lay_out.ensures.writes c.lay_out.ensures.lays_out c.in-Ok-lay_out.is (c.lay_out.ensures.flushed c.in-Ok-lay_out.is))
+    subst (λ (shape : ShapeView). IsFormatted shape d new) c.in-Ok.ensures.shape (formatted_from c.in-Ok.shape c.lay_out.result d mid new grown c.lay_out.ensures.writes c.lay_out.ensures.lays_out c.in-Ok-lay_out.is)

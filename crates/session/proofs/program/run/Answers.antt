@@ -1,8 +1,9 @@
-use Rattle.std.proofs.Common.{◌≡◌, inl, inr, ℕ, List, Err, refl, ap, subst, sym}
+use Rattle.std.proofs.Common.{◌≡◌, inl, ℕ, List, Err, refl, ap, subst}
 use Rattle.cli_words.specs.Grammar.{Means}
 use Rattle.cli_words.specs.declared.jobs.Job.{Job}
 use Rattle.cli_words.specs.declared.jobs.Job.TheVariants as job
-use Rattle.session.specs.Run.{AsksFor, a_session, an_image, a_check, IsOther, JobOutcome, NoneDone}
+use Rattle.session.specs.Run.{AsksFor, a_session, an_image, a_check, IsOther}
+use Rattle.session.proofs.Outcomes.{job_done, words_refused, none_done}
 use Rattle.session.proofs.program.run.Goals as goal
 
 -- words of another job ask for none that is built
@@ -38,24 +39,13 @@ returns-in-Ok-clause-other_words g c = λ none. inl (c.run_job.ensures.other (as
 
 pub returns-in-Ok-clause-outcome : goal.returns-in-Ok-clause-outcome
 returns-in-Ok-clause-outcome g c =
-    let d = g.D.Device.seen c.args.device.now in
-    let e = g.D.Device.seen c.run_job.new.device in
-    record {
-      done = λ j means. inr (subst (λ (k : Job). JobOutcome k c.run_job.result d e (g.S.Source.seen c.args.source.now) (g.S.Source.seen c.run_job.new.source) (g.K.Sink.seen c.args.sink.now) (g.K.Sink.seen c.run_job.new.sink))
-          (c.in-Ok.ensures.only j means) c.run_job.ensures.outcome);
-      refused = λ none. absurd (none c.in-Ok.job c.in-Ok.ensures.ok);
-    }
+    job_done _ c.in-Ok.job c.run_job.result (g.D.Device.seen c.args.device.now) (g.D.Device.seen c.run_job.new.device) (g.S.Source.seen c.args.source.now) (g.S.Source.seen c.run_job.new.source) (g.K.Sink.seen c.args.sink.now) (g.K.Sink.seen c.run_job.new.sink)
+    c.in-Ok.ensures.ok c.in-Ok.ensures.only c.run_job.ensures.outcome
 
 pub returns-in-Err-Usage-clause-outcome : goal.returns-in-Err-Usage-clause-outcome
 returns-in-Err-Usage-clause-outcome g c =
-    let none = c.in-Err-Usage.ensures.usage (ap Err c.in-Err-Usage.field-0-is) in
-    record {
-      done = λ j means. absurd (none j means);
-      refused = λ _. inr (record { is = refl; same_device = refl; same_source = refl; same_sink = refl });
-    }
+    words_refused _ (g.D.Device.seen c.args.device.now) (g.S.Source.seen c.args.source.now) (g.K.Sink.seen c.args.sink.now) (c.in-Err-Usage.ensures.usage (ap Err c.in-Err-Usage.field-0-is))
 
 pub returns-in-Err-NoMemory-clause-outcome : goal.returns-in-Err-NoMemory-clause-outcome
 returns-in-Err-NoMemory-clause-outcome g c =
-    let none : NoneDone c.end_with.result (g.D.Device.seen c.args.device.now) (g.D.Device.seen c.args.device.now) (g.S.Source.seen c.args.source.now) (g.S.Source.seen c.args.source.now) (g.K.Sink.seen c.args.sink.now) (g.K.Sink.seen c.end_with.new.sink) =
-    record { same_device = refl; same_source = refl; last_line = c.end_with.ensures.put } in
-    record { done = λ j means. inl none; refused = λ _. inl none }
+    none_done _ c.end_with.result (g.D.Device.seen c.args.device.now) (g.S.Source.seen c.args.source.now) (g.K.Sink.seen c.args.sink.now) (g.K.Sink.seen c.end_with.new.sink) c.end_with.ensures.put

@@ -37,6 +37,7 @@ returns-in-Ok-clause-outcome g c =
       first = first;
       looked = m.looked;
       falls = m.never_falls;
+      reads = m.reads;
       first_shape = refl;
       first_calls = m.calls;
       answered = h.answered;

@@ -4,16 +4,16 @@ use Rattle.session.specs.Session.{SoFarWith, CutShort}
 use Rattle.session.proofs.Bytes.{byte_more, line_answered, line_cut}
 use Rattle.session.proofs.session.answer_byte.Goals as goal
 
-pub returns-then-byte-ne10-clause-goes : goal.returns-then-byte-ne10-clause-goes
-returns-then-byte-ne10-clause-goes g c = λ b bytes w.
+pub returns-then-byte-ne-LINE_END-clause-goes : goal.returns-then-byte-ne-LINE_END-clause-goes
+returns-then-byte-ne-LINE_END-clause-goes g c = λ b bytes w.
     let now = at c.args.store.now (g.D.Device.seen c.args.device.now) in
     let sink = g.K.Sink.seen c.args.sink.now in
-    subst (λ (l : List ℕ). SoFarWith b (bytes ++ c.args.byte ∷ []) l now sink) (sym c.push.ensures) (byte_more b bytes c.args.line.now c.args.byte now sink c.if-byte-ne10.true w)
+    subst (λ (l : List ℕ). SoFarWith b (bytes ++ c.args.byte ∷ []) l now sink) (sym c.push.ensures) (byte_more b bytes c.args.line.now c.args.byte now sink c.if-byte-ne-LINE_END.true w)
 
 pub returns-in-Ok-clause-goes : goal.returns-in-Ok-clause-goes
 returns-in-Ok-clause-goes g c = λ b bytes w.
     let done = c.in-Ok.ensures.done in
-    let byte : c.args.byte ≡ 10 = c.if-byte-ne10.false in
+    let byte : c.args.byte ≡ 10 = c.if-byte-ne-LINE_END.false in
     let from = at c.args.store.now (g.D.Device.seen c.args.device.now) in
     let to = at c.turn.new.store (g.D.Device.seen c.turn.new.device) in
     let sink = g.K.Sink.seen c.args.sink.now in
@@ -25,7 +25,7 @@ returns-in-Ok-clause-goes g c = λ b bytes w.
 pub returns-in-Err-clause-goes : goal.returns-in-Err-clause-goes
 returns-in-Err-clause-goes g c = λ b bytes w.
     let done = c.in-Err.ensures.done in
-    let byte : c.args.byte ≡ 10 = c.if-byte-ne10.false in
+    let byte : c.args.byte ≡ 10 = c.if-byte-ne-LINE_END.false in
     let from = at c.args.store.now (g.D.Device.seen c.args.device.now) in
     let to = at c.turn.new.store (g.D.Device.seen c.turn.new.device) in
     let sink = g.K.Sink.seen c.args.sink.now in

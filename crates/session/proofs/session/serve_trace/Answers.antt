@@ -37,7 +37,7 @@ returns-in-Source-clause-served g c =
     let begin = subst (λ (l : List ℕ). SoFarWith b [] l first sink) (sym c.new-line.ensures) (so_far_none b) in
     let w = r.goes b [] begin in
     served_so_far b now (g.S.Source.seen c.args.source.now) (g.S.Source.seen c.answer_all.new.source) c.end_with.result read (g.K.Sink.seen c.end_with.new.sink) r.bytes c.answer_all.new.line r.gives (r.not_ended (λ is. cc is)) w
-    (λ some. source_failed tt some (r.few (inr refl)) (record { after_texts = read; put = w.so_far.put; last_line = c.end_with.ensures.put }))
+    (λ some. source_failed tt some (r.few (inr refl)) (c.in-Source.ensures.source_cause refl) (record { after_texts = read; put = w.so_far.put; last_line = c.end_with.ensures.put }))
 
 pub returns-in-Sink-clause-served : goal.returns-in-Sink-clause-served
 returns-in-Sink-clause-served g c =
