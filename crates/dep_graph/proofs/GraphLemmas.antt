@@ -1,10 +1,10 @@
 -- What the vectors of a graph say of its lists.
-use Rattle.std.proofs.Common.{◌≡◌, inl, inr, ℕ, suc, ◌+◌, ◌<◌, ◌≤◌, Bool, true, false, not, ◌&&◌, ◌||◌, List, [], ◌∷◌, ◌++◌, length, get_or, map, filter, refl, sym, ◌∙◌, ap, subst, arith, eqb, leb, eqb-true, eq-eqb, ne_eqb, Option, Some, None}
+use Rattle.std.proofs.Common.{◌≡◌, inl, inr, ℕ, suc, ◌+◌, ◌<◌, ◌≤◌, Bool, true, false, not, ◌&&◌, ◌||◌, List, [], ◌∷◌, ◌++◌, length, map, filter, refl, sym, ◌∙◌, ap, arith, eqb, eqb-true, eq-eqb, ne_eqb, Option, Some, None}
 use Rattle.std.specs.Prelude.{if◌then◌else◌}
 use Rattle.std.specs.List.{list_any}
-use Rattle.std.proofs.lemmas.Bool.{and_from, and_parts, cases_Bool, cases_eq, cases_lt, cases_order, le-leb, leb-true, or_from, true≢false}
+use Rattle.std.proofs.lemmas.Bool.{and_parts, cases_Bool, cases_eq, or_from, true≢false}
 use Rattle.dep_graph.specs.declared.pairs.Pair.{Pair}
-use Rattle.dep_graph.specs.Pages.{holds, IsFirst, IsLeast, IsRising}
+use Rattle.dep_graph.specs.Pages.{holds, IsLeast, IsRising}
 use Rattle.order_model.specs.Paths.{LivePath}
 use Rattle.dep_graph.specs.Pairs.{has_pair, ends_at, from_page, not_from_page, AreRising, Precedes}
 use Rattle.order_model.specs.Edges.{Edge, is_live}
@@ -13,8 +13,8 @@ use Rattle.dep_graph.specs.Waits.{Waits, waits_for}
 use Rattle.std.proofs.lemmas.List.Filters.{length-filter_both}
 use Rattle.dep_graph.specs.Kept.{IsKept, hung_alone}
 use Rattle.dep_graph.proofs.PathLemmas.{acyclic_fewer, way_begins, way_ends}
-use Rattle.dep_graph.proofs.PageLemmas.{fewer, found, fewer_by_one, holds_filter}
-use Rattle.dep_graph.proofs.RisingLemmas.{any_where, rises_append, rises_at, rises_filter, rises_map}
+use Rattle.dep_graph.proofs.PageLemmas.{fewer, fewer_by_one, holds_filter}
+use Rattle.dep_graph.proofs.RisingLemmas.{any_where, rises_append, rises_filter, rises_map}
 
 any_append : {X : Type 0} (q : X → Bool) (xs ys : List X) → list_any q (xs ++ ys) ≡ list_any q xs || list_any q ys
 any_append q [] ys = refl
@@ -284,29 +284,6 @@ no_way_to dirty hung hung_only live barred a b k off way = let q = way_ends way 
 
 pub no_way_from : (dirty : Waits) (hung : List ℕ) (hung_only : ℕ) (live barred : List Pair) (a b : ℕ) → IsKept dirty hung hung_only live barred → holds dirty.pages a ≡ false → LivePath (has_pair live) a b → ⊥
 no_way_from dirty hung hung_only live barred a b k off way = let q = way_begins way in true≢false (sym (k.live_ends a q.0 q.1).0 ∙ off)
-
--- the first of the ready pages from a number on is the least
-pub least_of_first : (P : ℕ → Type 0) (ready : ℕ → Bool) (pages : List ℕ) (from : ℕ) (r : Option ℕ) → IsRising pages → ((a : ℕ) → holds pages a ≡ ready a && leb from a) → IsFirst P pages r
-    → IsLeast (λ page. (ready page ≡ true) × P page) from r
-least_of_first P ready pages from None up is none = λ a h. elim (cases_lt a from) [
-  | inl lt ↦ lt
-  | inr le ↦ absurd (
-      let w = any_where (λ p. eqb p a) pages 0 (is a ∙ and_from _ _ h.0 (le-leb from a le)) in
-      none w.0 w.1 (subst P (sym (eqb-true _ _ w.2)) h.1))
-]
-least_of_first P ready pages from (Some page) up is (k, (lt, (at, (held, earlier)))) =
-    let both = and_parts (ready page) (leb from page) (sym (is page) ∙ found pages k page lt at) in (
-      (both.0, held),
-      leb-true from page both.1,
-      λ a h le.
-          let w = any_where (λ p. eqb p a) pages 0 (is a ∙ and_from _ _ h.0 (le-leb from a le)) in
-          let same : get_or pages w.0 0 ≡ a = eqb-true _ _ w.2 in
-          elim (cases_order w.0 k) [
-            | inl here ↦ let e : get_or pages w.0 0 ≡ page = ap (λ n. get_or pages n 0) here ∙ at in omega arith
-            | inr (inl before) ↦ absurd (earlier w.0 before (subst P (sym same) h.1))
-            | inr (inr after) ↦ let more = rises_at (λ a b. a < b) pages 0 up k w.0 after w.1 in omega arith
-          ],
-    )
 
 -- of the pairs that begin not at one page, those that begin at another are all of that page's, and none begins at the one
 pub from_others : (ps : List Pair) (page a : ℕ) → length (from_page (not_from_page ps page) a) ≡ (if eqb a page then 0 else length (from_page ps a))

@@ -1,7 +1,7 @@
 -- Look-ups in lists of page numbers.
-use Rattle.std.proofs.Common.{◌≡◌, inl, inr, ℕ, suc, ◌+◌, ◌-◌, ◌<◌, ◌≤◌, Bool, true, false, not, ◌&&◌, ◌||◌, List, [], ◌∷◌, ◌++◌, length, take, drop, filter, get_or, refl, sym, ◌∙◌, ap, subst, arith, eqb, leb, ltb, eqb-true, eq-eqb, ne_eqb}
-use Rattle.std.proofs.lemmas.Bool.{cases_Bool, cases_eq, cases_lt, or_parts, or_right, le-leb, lt-leb, lt-ltb, ltb-true, ltb-false, true≢false}
-use Rattle.std.proofs.lemmas.List.{get_or-drop, length-append, length-drop, length-take-le}
+use Rattle.std.proofs.Common.{◌≡◌, inl, inr, ℕ, suc, ◌+◌, ◌<◌, ◌≤◌, Bool, true, false, not, ◌&&◌, ◌||◌, List, [], ◌∷◌, ◌++◌, length, take, drop, filter, get_or, refl, sym, ◌∙◌, ap, subst, arith, eqb, ltb, eqb-true, eq-eqb, ne_eqb}
+use Rattle.std.proofs.lemmas.Bool.{cases_Bool, cases_eq, cases_lt, or_parts, or_right, lt-ltb, ltb-true, ltb-false}
+use Rattle.std.proofs.lemmas.List.{length-append, length-drop, length-take-le}
 use Rattle.std.specs.List.Sorted.{IsPartitionedBy, IsPartitionPoint}
 use Rattle.dep_graph.specs.Rising.{Leads, Rises}
 use Rattle.dep_graph.specs.Pages.{holds, IsAt, IsPlace, IsRising}
@@ -214,37 +214,3 @@ longer_by_one ps qs x up on more off = shorter_by_one qs ps x on up (λ a. rw (m
       | inl e ↦ rw (e, eq-eqb x x refl, off)
       | inr ne ↦ rw (ne_eqb a x ne) (stays (holds ps a))
     ]
-
--- the pages from a place on are those that are not below its page
-pub holds_drop : (ps : List ℕ) (from k a : ℕ) → IsPlace ps from k → holds (drop k ps) a ≡ holds ps a && leb from a
-holds_drop ps from k a at = elim (cases_lt a from) [
-  | inl lt ↦ rw (lt-leb from a lt) (any_none (λ p. eqb p a) (drop k ps) 0 (λ j j_lt. ne_eqb _ _ (λ e.
-      let is = get_or-drop k ps j 0 in
-      let len = length-drop k ps in
-      let least = at.above (k + j) (omega arith) (omega arith) in
-      omega arith)) ∙ never (holds ps a))
-  | inr le ↦ rw (le-leb from a le) (elim (cases_Bool (holds ps a)) [
-    | inl on ↦
-        let w = any_where (λ p. eqb p a) ps 0 on in
-        let is : get_or ps w.0 0 ≡ a = eqb-true _ _ w.2 in
-        let past : k ≤ w.0 = elim (cases_lt w.0 k) [
-          | inl before ↦ absurd (let b = at.below w.0 before in omega arith)
-          | inr after ↦ after
-        ] in
-        let len = length-drop k ps in
-        let same : k + (w.0 - k) ≡ w.0 = omega arith in
-        let there : holds (drop k ps) a ≡ true = any_at (λ p. eqb p a) (drop k ps) (w.0 - k) 0 (omega (arith, w.1)) (eq-eqb _ _ (get_or-drop k ps (w.0 - k) 0 ∙ ap (λ i. get_or ps i 0) same ∙ is)) in
-        rw (on, there)
-    | inr off ↦ elim (cases_Bool (holds (drop k ps) a)) [
-      | inr none ↦ rw (off, none)
-      | inl on ↦ absurd (
-          let w = any_where (λ p. eqb p a) (drop k ps) 0 on in
-          let len = length-drop k ps in
-          let held : holds ps a ≡ true = found ps (k + w.0) a (omega (arith, w.1)) (sym (get_or-drop k ps w.0 0) ∙ eqb-true _ _ w.2) in
-          true≢false (sym held ∙ off))
-    ]
-  ])
-]
-  where
-    never : (x : Bool) → false ≡ (x && false)
-    never x = grind arith

@@ -1,10 +1,11 @@
 -- Look-ups in lists of pairs.
 use Rattle.std.proofs.Common.{◌≡◌, ◌⊎◌, inl, inr, ℕ, zero, suc, ◌+◌, ◌-◌, ◌<◌, ◌≤◌, Bool, true, false, not, ◌&&◌, ◌||◌, List, [], ◌∷◌, ◌++◌, length, take, drop, get_or, refl, sym, ◌∙◌, ap, subst, arith, eqb, ltb, leb, eqb-true, eq-eqb, ne_eqb, filter}
-use Rattle.std.proofs.lemmas.Bool.{and_parts, and_from, and_left, and_right, cases_Bool, cases_lt, cases_order, le-leb, leb-false, leb-true, lt-ltb, ltb-false, ltb-true, or_cases, or_left, or_right, true≢false}
+use Rattle.std.proofs.lemmas.Bool.{and_parts, and_from, and_left, and_right, cases_Bool, cases_lt, cases_order, le-leb, leb-false, leb-true, lt-ltb, ltb-false, ltb-true, or_cases, or_from, or_left, or_right, true≢false}
 use Rattle.std.specs.List.Sorted.{IsPartitionedBy, IsPartitionPoint}
 use Rattle.dep_graph.specs.declared.pairs.Pair.{Pair}
+use Rattle.dep_graph.specs.Rising.{Rises}
 use Rattle.dep_graph.specs.Pairs.{has_pair, ends_at, from_page, not_from_page, same_pair, AreRising, IsPairPlace, IsRange, Precedes, precedes}
-use Rattle.dep_graph.proofs.RisingLemmas.{partitioned, rises_at, rises_insert, any_insert, any_at, any_none}
+use Rattle.dep_graph.proofs.RisingLemmas.{absent_after, any_at, any_insert, any_none, any_remove, leads_at, partitioned, rises_at, rises_insert}
 use Rattle.dep_graph.proofs.PageLemmas.{flip}
 
 pub precedes_on : (p q r : Pair) → Precedes p q → Precedes q r → Precedes p r
@@ -141,3 +142,44 @@ held_at ps k pair d up at lt = elim (cases_Bool (same_pair (get_or ps k d) pair)
   | inl is ↦ is ∙ sym (found ps k pair d lt is)
   | inr off ↦ off ∙ sym (not_found ps k pair d up at (λ in'. off))
 ]
+
+-- a pair that is held stands at its place
+pub stands : (ps : List Pair) (k : ℕ) (pair d : Pair) → AreRising ps → IsPairPlace ps pair k → has_pair ps pair.before pair.after ≡ true → (k < length ps) × (same_pair (get_or ps k d) pair ≡ true)
+stands ps k pair d up at on = elim (cases_lt k (length ps)) [
+  | inr ge ↦ absurd (true≢false (sym on ∙ not_found ps k pair d up at (λ lt. absurd (omega arith))))
+  | inl lt ↦ elim (cases_Bool (same_pair (get_or ps k d) pair)) [
+    | inl is ↦ (lt, is)
+    | inr off ↦ absurd (true≢false (sym on ∙ not_found ps k pair d up at (λ in'. off)))
+  ]
+]
+
+-- and is gone once it is taken out
+pub has_remove : (ps : List Pair) (k : ℕ) (pair d : Pair) → AreRising ps → k < length ps → same_pair (get_or ps k d) pair ≡ true
+    → (a b : ℕ) → has_pair (take k ps ++ drop (suc k) ps) a b ≡ has_pair ps a b && not (eqb a pair.before && eqb b pair.after)
+has_remove ps k pair d up lt is a b = bits (has_pair (take k ps ++ drop (suc k) ps) a b) (has_pair ps a b) (eqb a pair.before && eqb b pair.after)
+    (any_remove (λ p. eqb p.before a && eqb p.after b) ps k d lt ∙ rw (flip (get_or ps k d).before a, flip (get_or ps k d).after b, before, after))
+    (λ both. let p = and_parts (eqb a pair.before) (eqb b pair.after) both in
+    rw (eqb-true a pair.before p.0 ∙ sym before, eqb-true b pair.after p.1 ∙ sym after) (absent_after Precedes same_pair apart ps k d up lt))
+  where
+    before : (get_or ps k d).before ≡ pair.before
+    before = eqb-true (get_or ps k d).before pair.before (and_parts (eqb (get_or ps k d).before pair.before) (eqb (get_or ps k d).after pair.after) is).0
+
+    after : (get_or ps k d).after ≡ pair.after
+    after = eqb-true (get_or ps k d).after pair.after (and_parts (eqb (get_or ps k d).before pair.before) (eqb (get_or ps k d).after pair.after) is).1
+
+    never : (x : Bool) → false ≡ (x && not true)
+    never x = grind arith
+
+    stays : (x y : Bool) → y ≡ (x || false) → x ≡ (y && not false)
+    stays x y e = grind arith
+
+    bits : (x y e : Bool) → y ≡ (x || e) → (e ≡ true → x ≡ false) → x ≡ (y && not e)
+    bits x y true is off = off refl ∙ never y
+    bits x y false is off = stays x y is
+
+-- a pair does not stand among those before it
+pub not_before : (ps : List Pair) (i : ℕ) (d : Pair) → AreRising ps → i < length ps → has_pair (take i ps) (get_or ps i d).before (get_or ps i d).after ≡ false
+unfolding Rises
+not_before [] i d up lt = absurd (omega arith)
+not_before (p ∷ ps) zero d up lt = refl
+not_before (p ∷ ps) (suc i) d up lt = or_from _ _ (apart p (get_or ps i d) (leads_at Precedes p ps d up.0 i (omega arith))).0 (not_before ps i d up.1 (omega arith))

@@ -11,6 +11,15 @@ pub way_join : {live : ℕ → ℕ → Bool} {a b c : ℕ} → LivePath live a b
 way_join (leg e) q = via e q
 way_join (via e p) q = via e (way_join p q)
 
+-- a way along edges that are turned round leads back
+way_turned : {live back : ℕ → ℕ → Bool} {a b : ℕ} → ((a b : ℕ) → live a b ≡ true → back b a ≡ true) → LivePath live a b → LivePath back b a
+way_turned sub (leg e) = leg (sub _ _ e)
+way_turned sub (via e p) = way_join (way_turned sub p) (leg (sub _ _ e))
+
+pub closes_turned : (live back : ℕ → ℕ → Bool) (a b : ℕ) → ((a b : ℕ) → live a b ≡ true → back b a ≡ true) → Closes live a b → Closes back b a
+closes_turned live back a b sub (inl same) = inl (sym same)
+closes_turned live back a b sub (inr way) = inr (way_turned sub way)
+
 -- a way begins and ends with an edge
 pub way_begins : {live : ℕ → ℕ → Bool} {a b : ℕ} → LivePath live a b → (c : ℕ) × (live a c ≡ true)
 way_begins {b = b} (leg e) = (b, e)

@@ -61,12 +61,6 @@ module _ {X : Type 0} (R : X → X → Type 0) where
   rises_remove (x ∷ xs) zero h = h.1
   rises_remove (x ∷ xs) (suc k) h = (leads_remove x xs k h.0, rises_remove xs k h.1)
 
-  pub rises_drop : (xs : List X) (k : ℕ) → Rises R xs → Rises R (drop k xs)
-  unfolding Rises
-  rises_drop xs zero h = h
-  rises_drop [] (suc k) h = tt
-  rises_drop (x ∷ xs) (suc k) h = rises_drop xs k h.1
-
   leads_filter : (q : X → Bool) (x : X) (xs : List X) → Leads R x xs → Leads R x (filter q xs)
   unfolding Leads
   leads_filter q x [] h = tt

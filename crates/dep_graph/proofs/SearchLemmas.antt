@@ -104,6 +104,31 @@ place_of_seen pages (r ∷ rs) x h = elim (or_cases _ _ h) [
   | inr later ↦ let q = place_of_seen pages rs x later in (suc q.0, omega (arith, q.1), q.2)
 ]
 
+-- and is one of the pages
+pub seen_held : (pages reached : List ℕ) (x : ℕ) → AreWithin reached (length pages) → seen pages reached x ≡ true → holds pages x ≡ true
+seen_held pages reached x within h = let q = place_of_seen pages reached x h in any_at (λ p. eqb p x) pages (get_or reached q.0 0) 0 (within q.0 q.1) (eq-eqb _ _ q.2)
+
+-- the pages at one place more
+pub seen_more : (pages reached : List ℕ) (i x : ℕ) → i < length reached → seen pages (take (i + 1) reached) x ≡ seen pages (take i reached) x || eqb (get_or pages (get_or reached i 0) 0) x
+seen_more pages [] i x lt = absurd (omega arith)
+seen_more pages (r ∷ rs) zero x lt = last (eqb (get_or pages r 0) x)
+  where
+    last : (x : Bool) → (x || false) ≡ (false || x)
+    last x = grind arith
+seen_more pages (r ∷ rs) (suc i) x lt = rw add-one (ap (λ b. eqb (get_or pages r 0) x || b) (rw add-one at (seen_more pages rs i x (omega arith))) ∙ join (eqb (get_or pages r 0) x) (seen pages (take i rs) x) (eqb (get_or pages (get_or rs i 0) 0) x))
+  where
+    join : (x y z : Bool) → (x || (y || z)) ≡ ((x || y) || z)
+    join x y z = grind arith
+
+-- those of a part are those of the whole
+pub seen_within : (pages reached : List ℕ) (i x : ℕ) → seen pages (take i reached) x ≡ true → seen pages reached x ≡ true
+seen_within pages reached zero x h = absurd (cc)
+seen_within pages [] (suc i) x h = absurd (cc)
+seen_within pages (r ∷ rs) (suc i) x h = elim (or_cases (eqb (get_or pages r 0) x) (seen pages (take i rs) x) h) [
+  | inl here ↦ or_left (eqb (get_or pages r 0) x) (seen pages rs x) here
+  | inr later ↦ or_right (eqb (get_or pages r 0) x) (seen pages rs x) (seen_within pages rs i x later)
+]
+
 seen_push : (pages reached : List ℕ) (place x : ℕ) → seen pages (reached ++ place ∷ []) x ≡ seen pages reached x || eqb (get_or pages place 0) x
 seen_push pages [] place x = last (eqb (get_or pages place 0) x)
   where

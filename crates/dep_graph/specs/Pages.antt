@@ -30,8 +30,3 @@ pub record IsAt (pages : List ℕ) (page k : ℕ) : Type 0 where
 abbrev pub IsLeast : (ℕ → Type 0) → ℕ → Option ℕ → Type 0
 IsLeast P from (Some page) = P page × (from ≤ page) × ((a : ℕ) → P a → from ≤ a → page ≤ a)
 IsLeast P from None = (a : ℕ) → P a → a < from
-
--- the first of some pages of which this holds, if there is one
-abbrev pub IsFirst : (ℕ → Type 0) → List ℕ → Option ℕ → Type 0
-IsFirst P pages (Some page) = (k : ℕ) × ((k < length pages) × ((slice_index pages k ≡ page) × (P page × ((j : ℕ) → j < k → P (slice_index pages j) → ⊥))))
-IsFirst P pages None = (k : ℕ) → k < length pages → P (slice_index pages k) → ⊥

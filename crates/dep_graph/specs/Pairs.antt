@@ -47,3 +47,16 @@ pub record IsRange (pairs : List Pair) (page first end : ℕ) : Type 0 where
   pub below : (j : ℕ) (d : Pair) → j < first → (slice_index_or pairs j d).before < page
   pub inside : (j : ℕ) (d : Pair) → first ≤ j → j < end → (slice_index_or pairs j d).before ≡ page
   pub above : (j : ℕ) (d : Pair) → end ≤ j → j < length pairs → page < (slice_index_or pairs j d).before
+
+-- pairs, the same pairs turned round, and for how many there is room
+pub record BothWays : Type 0 where
+  pub pairs : List Pair
+  pub back : List Pair
+  pub room : ℕ
+
+-- the pairs of one list are those of the other, turned round
+pub record IsTurned (pairs back : List Pair) : Type 0 where
+  pub rising : AreRising pairs
+  pub back_rising : AreRising back
+  pub turned : (a b : ℕ) → has_pair back b a ≡ has_pair pairs a b
+  pub each : length back ≡ length pairs

@@ -3,15 +3,16 @@ ghost use Rattle.std.specs.Prelude.{◌≡◌, ℕ, ◌+◌, ◌-◌, ◌<◌, �
 ghost use Rattle.order_model.specs.Edges.{is_live};
 ghost use Rattle.dep_graph.specs.Lists.{dirty_in, hung_in, live_in, barred_in, edge_in, entered, is_node, is_ready, node_count, waiter_count, waits_in, IsGraph, marks_of};
 ghost use Rattle.dep_graph.specs.Calls.{Dropped, Fixed, Wrote};
-ghost use Rattle.dep_graph.specs.Pages.{IsLeast};
+ghost use Rattle.dep_graph.specs.Pages.{holds, IsLeast, IsRising};
 ghost use Rattle.order_model.specs.Levels.{IsGreatestLevel};
 ghost use Rattle.order_model.specs.Paths.{Closes};
 
 use crate::levels::greatest_level;
+use crate::live::LiveEdges;
 use crate::moves::{bar_each, lower_each};
 use crate::pairs::{self, Pair};
 use crate::room::room_for;
-use crate::search::{Search, first_reaching, reaches};
+use crate::search::{Search, list_reaching, reaches};
 use crate::waiting::Waiting;
 use crate::{Kind, NoMemory, pages};
 use std::alloc::Global;
@@ -78,13 +79,13 @@ fn room_for_levels(left: &mut Vec<u32>, level: &mut Vec<u32>, all: u32) -> Resul
 }
 
 // Room for so many edges in all.
-fn room_for_edges(live: &mut Vec<Pair>, barred: &mut Vec<Pair>, all: u32) -> Result<(), NoMemory>
-    ensures live { live.new.items ≡ live.old.items }
+fn room_for_edges(live: &mut LiveEdges, barred: &mut Vec<Pair>, all: u32) -> Result<(), NoMemory>
+    ensures live { live.new.pairs ≡ live.old.pairs }
     ensures barred { barred.new.items ≡ barred.old.items }
-    ensures ok { OnOk result ((all ≤ vec_capacity live.new) × (all ≤ vec_capacity barred.new)) }
-    ensures room { (vec_capacity live.old ≤ vec_capacity live.new) × (vec_capacity barred.old ≤ vec_capacity barred.new) }
+    ensures ok { OnOk result ((all ≤ live.new.room) × (all ≤ vec_capacity barred.new)) }
+    ensures room { (live.old.room ≤ live.new.room) × (vec_capacity barred.old ≤ vec_capacity barred.new) }
 {
-    match room_for(live, all as usize) {
+    match live.reserve(all) {
         Ok(()) => {}
         Err(_) => return Err(NoMemory),
     }
@@ -103,7 +104,7 @@ pub struct Graph {
     hung: Vec<u32>,
     // How many hung pages are not dirty.
     hung_only: u32,
-    live: Vec<Pair>,
+    live: LiveEdges,
     barred: Vec<Pair>,
     spare_nodes: u32,
     spare_edges: u32,
@@ -119,9 +120,9 @@ impl Model for Graph {
 
     ghost Value = { GraphLists };
 
-    ghost view = { λ g. record { dirty = g.dirty.pages; hung = g.hung.items; edges = edges_of g.live.items g.barred.items; spare_nodes = g.spare_nodes; spare_edges = g.spare_edges } };
+    ghost view = { λ g. record { dirty = g.dirty.pages; hung = g.hung.items; edges = edges_of g.live.pairs g.barred.items; spare_nodes = g.spare_nodes; spare_edges = g.spare_edges } };
 
-    ghost invariant = { λ g. IsKept g.dirty g.hung.items g.hung_only g.live.items g.barred.items × HasRoom (length g.dirty.pages + g.hung_only + g.spare_nodes) (length g.live.items + length g.barred.items + g.spare_edges) g.dirty.room (vec_capacity g.hung) (vec_capacity g.live) (vec_capacity g.barred) g.search.room (vec_capacity g.left) (vec_capacity g.level) × (g.search.reached ≡ []) };
+    ghost invariant = { λ g. IsKept g.dirty g.hung.items g.hung_only g.live.pairs g.barred.items × HasRoom (length g.dirty.pages + g.hung_only + g.spare_nodes) (length g.live.pairs + length g.barred.items + g.spare_edges) g.dirty.room (vec_capacity g.hung) g.live.room (vec_capacity g.barred) g.search.room (vec_capacity g.left) (vec_capacity g.level) × (g.search.reached ≡ []) };
 }
 
 impl Graph {
@@ -134,7 +135,7 @@ impl Graph {
             dirty: Waiting::new(alloc),
             hung: Vec::new(alloc),
             hung_only: 0,
-            live: Vec::new(alloc),
+            live: LiveEdges::new(alloc),
             barred: Vec::new(alloc),
             spare_nodes: 0,
             spare_edges: 0,
@@ -159,7 +160,7 @@ impl Graph {
         if all_nodes >= NODE_LIMIT {
             return Err(NoMemory);
         }
-        let all_edges = in_all(self.live.len() + self.barred.len(), spare_edges)?;
+        let all_edges = in_all(self.live.pairs().len() + self.barred.len(), spare_edges)?;
         room_for_nodes(&mut self.dirty, &mut self.hung, &mut self.search, all_nodes)?;
         room_for_levels(&mut self.left, &mut self.level, all_nodes)?;
         room_for_edges(&mut self.live, &mut self.barred, all_edges)?;
@@ -186,7 +187,7 @@ impl Graph {
             return false;
         }
         reaches(
-            &self.live,
+            self.live.pairs(),
             self.dirty.pages(),
             &mut self.search,
             after,
@@ -196,21 +197,51 @@ impl Graph {
 
     /// The least ready page at or above a number that is the target, or from which a way of Live edges leads to it.
     ///
-    /// It costs what Live edges lead to from the ready pages at or above `from` up to the answer, each page and edge once.
+    /// It costs the pages from which a way of Live edges leads to the target, and the edges between them, each with a look-up, by
+    /// marks that are taken away again. Of other pages it looks at none, ready or not.
     pub fn first_ready_before(&mut self, target: u32, from: u32) -> Option<u32>
         ensures least { IsLeast (λ page. (is_ready self.old page ≡ true) × Closes (live_in self.old) target page) from result }
         ensures same { self.new ≡ self.old }
     {
-        if !self.dirty.contains(target) {
-            return None;
-        }
-        first_reaching(
-            self.dirty.ready_from(from),
-            &self.live,
-            self.dirty.pages(),
+        list_reaching(
+            self.live.back(),
+            &self.dirty,
             &mut self.search,
             target,
-        )
+            &mut self.left,
+        );
+        pages::first_from(&self.left, from)
+    }
+
+    /// Lists each ready page that is the target, or from which a way of Live edges leads to it, in rising order and in place of what
+    /// the vector held.
+    ///
+    /// It costs as much as one [`first_ready_before`](Graph::first_ready_before), beside moving small elements of a sorted vector,
+    /// and takes no memory.
+    pub fn list_ready_before(&mut self, target: u32, listed: &mut Vec<u32>)
+        requires { length self.old.dirty ≤ vec_capacity listed.old }
+        ensures rising { IsRising listed.new.items }
+        ensures pages { (a : ℕ) → (holds listed.new.items a ≡ true) ↔ ((is_ready self.old a ≡ true) × Closes (live_in self.old) target a) }
+        ensures room { vec_capacity listed.old ≤ vec_capacity listed.new }
+        ensures same { self.new ≡ self.old }
+    {
+        list_reaching(
+            self.live.back(),
+            &self.dirty,
+            &mut self.search,
+            target,
+            listed,
+        );
+    }
+
+    /// Lists the ready pages, in rising order and in place of what the vector held. It costs these pages, and takes no memory.
+    pub fn list_ready(&self, listed: &mut Vec<u32>)
+        requires { length self.now.dirty ≤ vec_capacity listed.old }
+        ensures rising { IsRising listed.new.items }
+        ensures pages { (a : ℕ) → holds listed.new.items a ≡ is_ready self.now a }
+        ensures room { vec_capacity listed.old ≤ vec_capacity listed.new }
+    {
+        pages::list(self.dirty.ready(), listed);
     }
 
     /// Whether the page is dirty: edited since its last write. Logarithmic.
@@ -296,10 +327,10 @@ impl Graph {
         ensures spare_edges { self.new.spare_edges ≡ (if live_in self.old pair.before pair.after then self.old.spare_edges else self.old.spare_edges - 1) }
         ensures graph { IsGraph self.new }
     {
-        if pairs::contains(&self.live, pair) {
+        if pairs::contains(self.live.pairs(), pair) {
             return;
         }
-        pairs::insert(&mut self.live, pair);
+        self.live.insert(pair);
         self.dirty.raise(pair.after);
         self.spare_edges -= 1;
     }
@@ -326,7 +357,7 @@ impl Graph {
 
     /// The page, which was ready, was written: it is hung and not dirty, and its outgoing Live edges wait for a barrier alone. No
     /// page waits for its write any more; as many as before wait for that of each other page.
-    /// It costs the page's own edges, each with a look-up, beside moving small elements of sorted vectors.
+    /// It costs the page's own edges, each with look-ups, beside moving small elements of sorted vectors.
     pub fn wrote(&mut self, page: u32)
         requires { is_ready self.old page ≡ true }
         ensures { Wrote page self.old self.new }
@@ -334,11 +365,11 @@ impl Graph {
         self.dirty.leave(page);
         self.hung_only += 1;
         bar_each(
-            pairs::out_of(&self.live, page),
+            pairs::out_of(self.live.pairs(), page),
             &mut self.barred,
             &mut self.dirty,
         );
-        pairs::remove_out_of(&mut self.live, page);
+        self.live.remove_out_of(page);
         pages::include(&mut self.hung, page);
     }
 
@@ -355,7 +386,8 @@ impl Graph {
     }
 
     /// Takes the dirty mark from a page to which no edge leads, and its outgoing Live edges. A page that is also hung stays a
-    /// node. No page waits for it any more. It costs the page's own edges, each with a look-up, beside moving small elements of sorted vectors.
+    /// node. No page waits for it any more. It costs the page's own edges, each with look-ups, beside moving small elements of
+    /// sorted vectors.
     pub fn drop_node(&mut self, page: u32)
         requires { waits_in self.old page ≡ false }
         ensures { Dropped page self.old self.new }
@@ -364,8 +396,8 @@ impl Graph {
             return;
         }
         self.dirty.leave(page);
-        lower_each(pairs::out_of(&self.live, page), &mut self.dirty);
-        pairs::remove_out_of(&mut self.live, page);
+        lower_each(pairs::out_of(self.live.pairs(), page), &mut self.dirty);
+        self.live.remove_out_of(page);
         self.hung_only += u32::from(pages::contains(&self.hung, page));
     }
 
@@ -380,7 +412,7 @@ impl Graph {
     pub fn waiters(&self, page: u32) -> u32
         ensures { result ≡ waiter_count self.now page }
     {
-        pairs::out_of(&self.live, page).len() as u32
+        pairs::out_of(self.live.pairs(), page).len() as u32
     }
 
     /// How many pages are dirty. Constant.
@@ -413,7 +445,7 @@ impl Graph {
         ensures same { self.new ≡ self.old }
     {
         let greatest = greatest_level(
-            &self.live,
+            self.live.pairs(),
             &self.barred,
             self.dirty.pages(),
             &mut self.search,

@@ -9,6 +9,7 @@
 mod graph;
 mod laws;
 mod levels;
+mod live;
 mod moves;
 mod pages;
 mod pairs;

@@ -1,5 +1,5 @@
 // Page numbers in rising order, in a vector. No call takes memory.
-ghost use Rattle.std.specs.Prelude.{◌≡◌, ℕ, ◌+◌, ◌<◌, ◌≤◌, Bool, false, true, ◌||◌, ◌&&◌, not, eqb, nat_le, length, vec_len, vec_capacity, insert, remove};
+ghost use Rattle.std.specs.Prelude.{◌≡◌, ℕ, ◌+◌, ◌<◌, ◌≤◌, Bool, false, true, ◌||◌, ◌&&◌, not, eqb, length, vec_len, vec_capacity, insert, remove};
 ghost use Rattle.dep_graph.specs.Pages.{holds, IsAt, IsLeast, IsPlace, IsRising};
 
 use crate::room::insert_at;
@@ -87,12 +87,12 @@ pub fn first_from(pages: &[u32], from: u32) -> Option<u32>
     }
 }
 
-// The pages that are not below this number.
-pub fn pages_from(pages: &[u32], from: u32) -> &[u32]
-    requires { IsRising pages.now }
-    ensures pages { (a : ℕ) → holds result.now a ≡ (holds pages.now a && nat_le from a) }
-    ensures rising { IsRising result.now }
+// Lists these pages, in place of what the vector held.
+pub fn list(pages: &[u32], listed: &mut Vec<u32>)
+    requires { length pages.now ≤ vec_capacity listed.old }
+    ensures items { listed.new.items ≡ pages.now }
+    ensures room { vec_capacity listed.old ≤ vec_capacity listed.new }
 {
-    let at = place_of(pages, from);
-    &pages[at..]
+    listed.clear();
+    let _ = listed.extend_from_slice(pages);
 }

@@ -1,5 +1,5 @@
 // Pairs of pages in rising order, in a vector. No call takes memory.
-ghost use Rattle.std.specs.Prelude.{◌≡◌, ℕ, ◌+◌, ◌<◌, ◌≤◌, Bool, false, true, ◌||◌, ◌&&◌, eqb, [], ◌∷◌, length, vec_len, vec_capacity};
+ghost use Rattle.std.specs.Prelude.{◌≡◌, ℕ, ◌+◌, ◌<◌, ◌≤◌, Bool, false, true, ◌||◌, ◌&&◌, not, eqb, [], ◌∷◌, length, vec_len, vec_capacity};
 ghost use Rattle.dep_graph.specs.Pairs.{has_pair, ends_at, from_page, not_from_page, same_pair, AreRising, IsPairPlace, IsRange, precedes};
 
 use crate::room::{cut_out, insert_at};
@@ -12,6 +12,17 @@ pub struct Pair {
 }
 
 impl Pair {
+    /// The pair turned round.
+    pub fn turned(&self) -> Pair
+        ensures before { result.before ≡ self.now.after }
+        ensures after { result.after ≡ self.now.before }
+    {
+        Pair {
+            before: self.after,
+            after: self.before,
+        }
+    }
+
     fn is(&self, other: Pair) -> bool
         ensures { result ≡ same_pair self.now other }
     {
@@ -55,6 +66,19 @@ pub fn insert(pairs: &mut Vec<Pair>, pair: Pair)
 {
     let at = place_of(pairs, pair);
     insert_at(pairs, at, pair);
+}
+
+// Takes out a pair that is there.
+pub fn remove(pairs: &mut Vec<Pair>, pair: Pair)
+    requires rising { AreRising pairs.old.items }
+    requires present { has_pair pairs.old.items pair.before pair.after ≡ true }
+    ensures pairs { (a b : ℕ) → has_pair pairs.new.items a b ≡ (has_pair pairs.old.items a b && not (eqb a pair.before && eqb b pair.after)) }
+    ensures rising { AreRising pairs.new.items }
+    ensures len { length pairs.new.items + 1 ≡ length pairs.old.items }
+    ensures room { vec_capacity pairs.new ≡ vec_capacity pairs.old }
+{
+    let at = place_of(pairs, pair);
+    let _ = pairs.remove(at);
 }
 
 // Where the pairs that begin at the page stand: from the first place up to the second.

@@ -1,14 +1,16 @@
 // A search along Live edges by marks and a queue. It takes no memory.
-ghost use Rattle.std.specs.Prelude.{◌≡◌, ◌⊎◌, ◌↔◌, ℕ, ◌+◌, ◌<◌, ◌≤◌, ◌^◌, ◌||◌, Bool, true, false, eqb, slice_index_or, [], ◌∷◌, ◌++◌, length, slice_index, OnOk, if◌then◌else◌};
+ghost use Rattle.std.specs.Prelude.{◌≡◌, ◌⊎◌, ◌↔◌, ℕ, ◌+◌, ◌<◌, ◌≤◌, ◌^◌, ◌||◌, ◌&&◌, Bool, true, false, eqb, slice_index_or, [], ◌∷◌, ◌++◌, length, slice_index, vec_capacity, OnOk, if◌then◌else◌};
 ghost use Rattle.std.specs.List.{list_any};
-ghost use Rattle.dep_graph.specs.Pages.{holds, IsFirst, IsRising};
+ghost use Rattle.dep_graph.specs.Pages.{holds, IsRising};
 ghost use Rattle.dep_graph.specs.Pairs.{AreRising, has_pair};
 ghost use Rattle.order_model.specs.Paths.{Closes};
 ghost use Rattle.dep_graph.specs.Trails.{seen, AreWithin, IsClosed};
+ghost use Rattle.dep_graph.specs.Waits.{waits_for};
 
 use crate::pages;
 use crate::pairs::{self, Pair};
 use crate::room::room_for;
+use crate::waiting::Waiting;
 use std::alloc::{AllocError, Global};
 use std::marker::Model;
 
@@ -75,6 +77,14 @@ impl Search {
         ensures { result ≡ slice_index self.now.reached i }
     {
         self.queue[i] as usize
+    }
+
+    // The places that were reached, in their order.
+    pub fn places(&self) -> &[u32]
+        ensures { result.now ≡ self.now.reached }
+    {
+        let _ = &self.marks;
+        &self.queue
     }
 
     pub fn is_reached(&self, place: usize) -> bool
@@ -177,54 +187,61 @@ pub fn reaches(live: &[Pair], pages: &[u32], search: &mut Search, from: u32, to:
     found
 }
 
-// The first of some pages from which a way leads to another, or which is that one.
-pub fn first_reaching(
-    candidates: &[u32],
-    live: &[Pair],
-    pages: &[u32],
+// Lists, in rising order, the pages to which no edge leads and from which a way leads to one page, and that page itself where no
+// edge leads to it. The edges are turned round.
+pub fn list_reaching(
+    back: &[Pair],
+    dirty: &Waiting,
     search: &mut Search,
     to: u32,
-) -> Option<u32>
-    requires live_rising { AreRising live.now }
-    requires rising { IsRising pages.now }
-    requires ends { (a b : ℕ) → has_pair live.now a b ≡ true → holds pages.now b ≡ true }
-    requires candidates { (k : ℕ) → k < length candidates.now → holds pages.now (slice_index candidates.now k) ≡ true }
-    requires to { holds pages.now to ≡ true }
+    listed: &mut Vec<u32>,
+)
+    requires back_rising { AreRising back.now }
+    requires ends { (a b : ℕ) → has_pair back.now a b ≡ true → (holds dirty.now.pages a ≡ true) × (holds dirty.now.pages b ≡ true) }
     requires none { search.old.reached ≡ [] }
-    requires room { length pages.now ≤ search.old.room }
-    ensures first { IsFirst (λ page. Closes (has_pair live.now) to page) candidates.now result }
+    requires room { length dirty.now.pages ≤ search.old.room }
+    requires listed_room { length dirty.now.pages ≤ vec_capacity listed.old }
+    ensures listed { (a : ℕ) → (holds listed.new.items a ≡ true) ↔ (((holds dirty.now.pages a && eqb (waits_for dirty.now a) 0) ≡ true) × Closes (has_pair back.now) a to) }
+    ensures rising { IsRising listed.new.items }
     ensures none { search.new.reached ≡ [] }
     ensures room { search.new.room ≡ search.old.room }
+    ensures listed_room { vec_capacity listed.new ≡ vec_capacity listed.old }
 {
-    let found = try_each(candidates, live, pages, search, to);
+    listed.clear();
+    if !dirty.contains(to) {
+        return;
+    }
+    explore(back, dirty.pages(), search, to);
+    collect(dirty, search.places(), listed);
     search.clear();
-    found
 }
 
-// Goes on from one page to the next, over what was reached from those before.
-fn try_each(
-    candidates: &[u32],
-    live: &[Pair],
-    pages: &[u32],
-    search: &mut Search,
-    to: u32,
-) -> Option<u32>
-    requires live_rising { AreRising live.now }
-    requires rising { IsRising pages.now }
-    requires ends { (a b : ℕ) → has_pair live.now a b ≡ true → holds pages.now b ≡ true }
-    requires candidates { (k : ℕ) → k < length candidates.now → holds pages.now (slice_index candidates.now k) ≡ true }
-    requires to { holds pages.now to ≡ true }
-    requires none { search.old.reached ≡ [] }
-    requires room { length pages.now ≤ search.old.room }
-    ensures first { IsFirst (λ page. Closes (has_pair live.now) to page) candidates.now result }
-    ensures room { search.new.room ≡ search.old.room }
+// Lists the pages at these places to which no edge leads, in rising order.
+fn collect(dirty: &Waiting, places: &[u32], listed: &mut Vec<u32>)
+    requires within { AreWithin places.now (length dirty.now.pages) }
+    requires none { listed.old.items ≡ [] }
+    requires room { length dirty.now.pages ≤ vec_capacity listed.old }
+    ensures listed { (a : ℕ) → holds listed.new.items a ≡ (seen dirty.now.pages places.now a && eqb (waits_for dirty.now a) 0) }
+    ensures rising { IsRising listed.new.items }
+    ensures room { vec_capacity listed.new ≡ vec_capacity listed.old }
 {
-    let place = pages::position_of(pages, to);
-    for page in candidates {
-        explore(live, pages, search, *page);
-        if search.is_reached(place) {
-            return Some(*page);
-        }
+    for place in places {
+        list_if_ready(dirty, *place as usize, listed);
     }
-    None
+}
+
+// Lists the page at a place where no edge leads to it.
+fn list_if_ready(dirty: &Waiting, place: usize, listed: &mut Vec<u32>)
+    requires place { place < length dirty.now.pages }
+    requires rising { IsRising listed.old.items }
+    requires some { (a : ℕ) → holds listed.old.items a ≡ true → holds dirty.now.pages a ≡ true }
+    requires room { length dirty.now.pages ≤ vec_capacity listed.old }
+    ensures listed { (a : ℕ) → holds listed.new.items a ≡ (holds listed.old.items a || (eqb (slice_index dirty.now.pages place) a && eqb (waits_for dirty.now a) 0)) }
+    ensures rising { IsRising listed.new.items }
+    ensures room { vec_capacity listed.new ≡ vec_capacity listed.old }
+{
+    let page = dirty.pages()[place];
+    if dirty.is_ready(page) {
+        pages::include(listed, page);
+    }
 }

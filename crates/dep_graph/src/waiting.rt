@@ -1,5 +1,5 @@
 // The dirty pages, each with the number of edges that lead to it, and those to which none leads.
-ghost use Rattle.std.specs.Prelude.{◌≡◌, ℕ, ◌+◌, ◌-◌, ◌<◌, ◌≤◌, ◌^◌, Bool, false, true, ◌||◌, ◌&&◌, not, eqb, nat_le, length, [], OnOk, if◌then◌else◌};
+ghost use Rattle.std.specs.Prelude.{◌≡◌, ℕ, ◌+◌, ◌-◌, ◌<◌, ◌≤◌, ◌^◌, Bool, false, true, ◌||◌, ◌&&◌, not, eqb, length, [], OnOk, if◌then◌else◌};
 ghost use Rattle.dep_graph.specs.Pages.{holds, IsLeast, IsRising};
 ghost use Rattle.dep_graph.specs.Waits.{waits_for};
 
@@ -77,12 +77,13 @@ impl Waiting {
         pages::first_from(&self.ready, from)
     }
 
-    // The pages at or above a number to which no edge leads.
-    pub fn ready_from(&self, from: u32) -> &[u32]
-        ensures pages { (a : ℕ) → holds result.now a ≡ ((holds self.now.pages a && eqb (waits_for self.now a) 0) && nat_le from a) }
+    // The pages to which no edge leads.
+    pub fn ready(&self) -> &[u32]
+        ensures pages { (a : ℕ) → holds result.now a ≡ (holds self.now.pages a && eqb (waits_for self.now a) 0) }
         ensures rising { IsRising result.now }
+        ensures some { length result.now ≤ length self.now.pages }
     {
-        pages::pages_from(&self.ready, from)
+        &self.ready
     }
 
     // Takes in a page to which no edge leads.

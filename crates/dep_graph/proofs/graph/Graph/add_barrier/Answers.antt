@@ -10,7 +10,7 @@ use Rattle.dep_graph.proofs.graph.Graph.add_barrier.Goals as goal
 
 -- the look-up in the lists is the look-up in the vector
 was : (c : goal.Then-contains) (a b : ℕ) → barred_in c.args.self.now a b ≡ has_pair c.self.inside.barred.items a b
-was c a b = sym (ap (λ (g : GraphLists). barred_in g a b) c.self.view_is) ∙ barred_is c.self.inside.live.items c.self.inside.barred.items a b
+was c a b = sym (ap (λ (g : GraphLists). barred_in g a b) c.self.view_is) ∙ barred_is c.self.inside.live.pairs c.self.inside.barred.items a b
 
 stood : (c : goal.Then-contains) → barred_in c.args.self.now c.args.pair.before c.args.pair.after ≡ true
 stood c = was c c.args.pair.before c.args.pair.after ∙ ap (λ (l : List Pair). has_pair l c.args.pair.before c.args.pair.after) (sym c.deref.ensures.value) ∙ sym c.contains.ensures ∙ c.if-contains.true
@@ -22,12 +22,12 @@ pub returns-then-contains-clause-spare_edges : goal.returns-then-contains-clause
 returns-then-contains-clause-spare_edges c = sym (cond-true _ _ _ (stood c))
 
 pub returns-then-contains-clause-graph : goal.returns-then-contains-clause-graph
-returns-then-contains-clause-graph c = subst IsGraph c.self.view_is (graph_of c.self.inside.dirty c.self.inside.hung.items c.self.inside.hung_only c.self.inside.live.items c.self.inside.barred.items _ _ c.self.invariant.0)
+returns-then-contains-clause-graph c = subst IsGraph c.self.view_is (graph_of c.self.inside.dirty c.self.inside.hung.items c.self.inside.hung_only c.self.inside.live.pairs c.self.inside.barred.items _ _ c.self.invariant.0)
 
 pub raise-requires-clause-few : goal.raise-requires-clause-few
 raise-requires-clause-few c =
     let is = c.self.invariant.0.counts c.args.pair.after in
-    let live = ends_le c.self.inside.live.items c.args.pair.after in
+    let live = ends_le c.self.inside.live.pairs c.args.pair.after in
     let barred = ends_le c.self.inside.barred.items c.args.pair.after in
     let spare = ap (λ (g : GraphLists). g.spare_edges) c.self.view_is in
     omega (arith, c.self.invariant.1.few_edges, c.requires.spare)
@@ -39,7 +39,7 @@ invariant_of-self c =
     let len = c.insert.ensures.len in
     let same = ap length c.raise.ensures.pages in
     let fits = c.self.invariant.1 in (
-      kept_barrier c.self.inside.dirty c.self.inside.hung.items c.self.inside.hung_only c.self.inside.live.items c.self.inside.barred.items c.self.invariant.0 c.args.pair c.raise.new.self c.raise.ensures.pages (ap (λ (g : GraphLists). dirty_in g c.args.pair.after) c.self.view_is ∙ c.requires.after) c.raise.ensures.counts
+      kept_barrier c.self.inside.dirty c.self.inside.hung.items c.self.inside.hung_only c.self.inside.live.pairs c.self.inside.barred.items c.self.invariant.0 c.args.pair c.raise.new.self c.raise.ensures.pages (ap (λ (g : GraphLists). dirty_in g c.args.pair.after) c.self.view_is ∙ c.requires.after) c.raise.ensures.counts
           c.insert.new.pairs.items c.insert.ensures.rising c.insert.ensures.pairs c.insert.ensures.ends (ap (λ (g : GraphLists). hung_in g c.args.pair.before) c.self.view_is ∙ c.requires.before),
       record {
         dirty = omega (arith, c.raise.ensures.room, fits.dirty);
@@ -57,13 +57,13 @@ invariant_of-self c =
     )
 
 old : (c : goal.After-self-1) (a b : ℕ) → barred_in c.args.self.now a b ≡ has_pair c.self.inside.barred.items a b
-old c a b = sym (ap (λ (g : GraphLists). barred_in g a b) c.self.view_is) ∙ barred_is c.self.inside.live.items c.self.inside.barred.items a b
+old c a b = sym (ap (λ (g : GraphLists). barred_in g a b) c.self.view_is) ∙ barred_is c.self.inside.live.pairs c.self.inside.barred.items a b
 
 pub returns-clause-barred : goal.returns-clause-barred
-returns-clause-barred c = λ a b. barred_is c.self.inside.live.items c.insert.new.pairs.items a b ∙ c.insert.ensures.pairs a b ∙ ap (λ x. x || (eqb a c.args.pair.before && eqb b c.args.pair.after)) (sym (old c a b))
+returns-clause-barred c = λ a b. barred_is c.self.inside.live.pairs c.insert.new.pairs.items a b ∙ c.insert.ensures.pairs a b ∙ ap (λ x. x || (eqb a c.args.pair.before && eqb b c.args.pair.after)) (sym (old c a b))
 
 pub returns-clause-live : goal.returns-clause-live
-returns-clause-live c = λ a b. live_is c.self.inside.live.items c.insert.new.pairs.items a b ∙ sym (live_is c.self.inside.live.items c.self.inside.barred.items a b) ∙ ap (λ (g : GraphLists). live_in g a b) c.self.view_is
+returns-clause-live c = λ a b. live_is c.self.inside.live.pairs c.insert.new.pairs.items a b ∙ sym (live_is c.self.inside.live.pairs c.self.inside.barred.items a b) ∙ ap (λ (g : GraphLists). live_in g a b) c.self.view_is
 
 pub returns-clause-spare_edges : goal.returns-clause-spare_edges
 returns-clause-spare_edges c =
@@ -71,4 +71,4 @@ returns-clause-spare_edges c =
     ap (λ (g : GraphLists). g.spare_edges - 1) c.self.view_is ∙ sym (cond-false _ _ _ off)
 
 pub returns-clause-graph : goal.returns-clause-graph
-returns-clause-graph c = graph_of c.raise.new.self c.self.inside.hung.items c.self.inside.hung_only c.self.inside.live.items c.insert.new.pairs.items _ _ (invariant_of-self c).0
+returns-clause-graph c = graph_of c.raise.new.self c.self.inside.hung.items c.self.inside.hung_only c.self.inside.live.pairs c.insert.new.pairs.items _ _ (invariant_of-self c).0

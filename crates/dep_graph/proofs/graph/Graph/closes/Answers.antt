@@ -13,8 +13,8 @@ returns-then-not-contains-clause-closes c =
       λ h. absurd (true≢false (sym h)),
       λ closes. absurd (elim closes [
         | inl same ↦ c.if-before-after.false same
-        | inr way ↦ no_way_to c.self.inside.dirty c.self.inside.hung.items c.self.inside.hung_only c.self.inside.live.items c.self.inside.barred.items c.args.after c.args.before c.self.invariant.0 off
-            (way_more (λ a b h. sym (live_is c.self.inside.live.items c.self.inside.barred.items a b) ∙ ap (λ (g : GraphLists). live_in g a b) c.self.view_is ∙ h) way)
+        | inr way ↦ no_way_to c.self.inside.dirty c.self.inside.hung.items c.self.inside.hung_only c.self.inside.live.pairs c.self.inside.barred.items c.args.after c.args.before c.self.invariant.0 off
+            (way_more (λ a b h. sym (live_is c.self.inside.live.pairs c.self.inside.barred.items a b) ∙ ap (λ (g : GraphLists). live_in g a b) c.self.view_is ∙ h) way)
       ]),
     )
 
@@ -24,8 +24,8 @@ returns-then-not-contains-2-clause-closes c =
       λ h. absurd (true≢false (sym h)),
       λ closes. absurd (elim closes [
         | inl same ↦ c.if-before-after.false same
-        | inr way ↦ no_way_from c.self.inside.dirty c.self.inside.hung.items c.self.inside.hung_only c.self.inside.live.items c.self.inside.barred.items c.args.after c.args.before c.self.invariant.0 off
-            (way_more (λ a b h. sym (live_is c.self.inside.live.items c.self.inside.barred.items a b) ∙ ap (λ (g : GraphLists). live_in g a b) c.self.view_is ∙ h) way)
+        | inr way ↦ no_way_from c.self.inside.dirty c.self.inside.hung.items c.self.inside.hung_only c.self.inside.live.pairs c.self.inside.barred.items c.args.after c.args.before c.self.invariant.0 off
+            (way_more (λ a b h. sym (live_is c.self.inside.live.pairs c.self.inside.barred.items a b) ∙ ap (λ (g : GraphLists). live_in g a b) c.self.view_is ∙ h) way)
       ]),
     )
 
@@ -33,11 +33,11 @@ pub reaches-requires-clause-room : goal.reaches-requires-clause-room
 reaches-requires-clause-room c = omega (arith, c.self.invariant.1.search_fits, ap length c.pages.ensures.pages)
 
 -- the look-up in the lists is the look-up in the vector
-same : (c : goal.After-reaches) (a b : ℕ) → has_pair c.deref.result.now a b ≡ live_in c.args.self.now a b
-same c a b = ap (λ (l : List Pair). has_pair l a b) c.deref.ensures.value ∙ sym (live_is c.self.inside.live.items c.self.inside.barred.items a b) ∙ ap (λ (g : GraphLists). live_in g a b) c.self.view_is
+same : (c : goal.After-reaches) (a b : ℕ) → has_pair c.pairs.result.now a b ≡ live_in c.args.self.now a b
+same c a b = ap (λ (l : List Pair). has_pair l a b) c.pairs.ensures.pairs ∙ sym (live_is c.self.inside.live.pairs c.self.inside.barred.items a b) ∙ ap (λ (g : GraphLists). live_in g a b) c.self.view_is
 
 pub returns-clause-closes : goal.returns-clause-closes
 returns-clause-closes c = (
-  λ h. closes_more (has_pair c.deref.result.now) (live_in c.args.self.now) c.args.before c.args.after (λ a b e. sym (same c a b) ∙ e) (c.reaches.ensures.way.0 h),
-  λ closes. c.reaches.ensures.way.1 (closes_more (live_in c.args.self.now) (has_pair c.deref.result.now) c.args.before c.args.after (λ a b e. same c a b ∙ e) closes),
+  λ h. closes_more (has_pair c.pairs.result.now) (live_in c.args.self.now) c.args.before c.args.after (λ a b e. sym (same c a b) ∙ e) (c.reaches.ensures.way.0 h),
+  λ closes. c.reaches.ensures.way.1 (closes_more (live_in c.args.self.now) (has_pair c.pairs.result.now) c.args.before c.args.after (λ a b e. same c a b ∙ e) closes),
 )

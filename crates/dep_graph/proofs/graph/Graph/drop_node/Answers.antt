@@ -14,13 +14,13 @@ use Rattle.dep_graph.proofs.CountLemmas.{dropped_marked, dropped_nodes, not_dirt
 use Rattle.dep_graph.proofs.graph.Graph.drop_node.Goals as goal
 
 pub leave-requires-clause-ready : goal.leave-requires-clause-ready
-leave-requires-clause-ready c = none_leads c.self.inside.dirty c.self.inside.hung.items c.self.inside.hung_only c.self.inside.live.items c.self.inside.barred.items c.args.page c.self.invariant.0 (ap (λ (g : GraphLists). waits_in g c.args.page) c.self.view_is ∙ c.requires)
+leave-requires-clause-ready c = none_leads c.self.inside.dirty c.self.inside.hung.items c.self.inside.hung_only c.self.inside.live.pairs c.self.inside.barred.items c.args.page c.self.invariant.0 (ap (λ (g : GraphLists). waits_in g c.args.page) c.self.view_is ∙ c.requires)
 
 pub lower_each-requires-clause-some : goal.lower_each-requires-clause-some
 lower_each-requires-clause-some c =
-    let out = c.out_of.ensures ∙ ap (λ (l : List Pair). from_page l c.args.page) c.deref.ensures.value in
+    let out = c.out_of.ensures ∙ ap (λ (l : List Pair). from_page l c.args.page) c.pairs.ensures.pairs in
     λ b.
-    let parts = ends_parts c.self.inside.live.items c.args.page b in
+    let parts = ends_parts c.self.inside.live.pairs c.args.page b in
     let all = c.self.invariant.0.counts b in
     let same = c.leave.ensures.counts b in
     let e = ap (λ (l : List Pair). ends_at l b) out in
@@ -42,20 +42,20 @@ overflow_add-self c = let le = at_most_one c.contains-2.result in omega (arith, 
 
 pub invariant_of-self : goal.invariant_of-self
 invariant_of-self c =
-    let out = c.out_of.ensures ∙ ap (λ (l : List Pair). from_page l c.args.page) c.deref.ensures.value in
-    let ready = none_leads c.self.inside.dirty c.self.inside.hung.items c.self.inside.hung_only c.self.inside.live.items c.self.inside.barred.items c.args.page c.self.invariant.0 (ap (λ (g : GraphLists). waits_in g c.args.page) c.self.view_is ∙ c.requires) in
+    let out = c.out_of.ensures ∙ ap (λ (l : List Pair). from_page l c.args.page) c.pairs.ensures.pairs in
+    let ready = none_leads c.self.inside.dirty c.self.inside.hung.items c.self.inside.hung_only c.self.inside.live.pairs c.self.inside.barred.items c.args.page c.self.invariant.0 (ap (λ (g : GraphLists). waits_in g c.args.page) c.self.view_is ∙ c.requires) in
     let pages = λ (a : ℕ). ap (λ (l : List ℕ). holds l a) c.lower_each.ensures.pages ∙ c.leave.ensures.pages a in
     let fits = c.self.invariant.1 in
-    let parts = length_parts c.self.inside.live.items c.args.page in
-    let left = ap length c.remove_out_of.ensures.items in
+    let parts = length_parts c.self.inside.live.pairs c.args.page in
+    let left = ap length c.remove_out_of.ensures.pairs in
     let there = sym c.contains.ensures ∙ c.if-not-contains.false in
-    let count : c.from.result ≡ from_bool (holds c.self.inside.hung.items c.args.page) = c.from.ensures ∙ ap from_bool (c.contains-2.ensures ∙ ap (λ (l : List ℕ). holds l c.args.page) c.deref-2.ensures.value) in
+    let count : c.from.result ≡ from_bool (holds c.self.inside.hung.items c.args.page) = c.from.ensures ∙ ap from_bool (c.contains-2.ensures ∙ ap (λ (l : List ℕ). holds l c.args.page) c.deref.ensures.value) in
     let len = shorter_by_one c.self.inside.dirty.pages c.leave.new.self.pages c.args.page c.self.invariant.0.dirty_rising c.leave.ensures.rising c.leave.ensures.pages there in
     let same = ap length c.lower_each.ensures.pages in
     let le = at_most_one (holds c.self.inside.hung.items c.args.page) in (
-      subst (λ (l : List Pair). IsKept c.lower_each.new.dirty c.self.inside.hung.items (c.self.inside.hung_only + c.from.result) l c.self.inside.barred.items) (sym c.remove_out_of.ensures.items)
-          (kept_drop c.self.inside.dirty c.self.inside.hung.items c.self.inside.hung_only c.self.inside.live.items c.self.inside.barred.items c.self.invariant.0 c.args.page ready c.lower_each.new.dirty pages (c.self.inside.hung_only + c.from.result)
-          there (rw c.lower_each.ensures.pages c.leave.ensures.rising) (subst AreRising c.remove_out_of.ensures.items c.remove_out_of.ensures.rising) (ap (λ n. c.self.inside.hung_only + n) count)
+      subst (λ (l : List Pair). IsKept c.lower_each.new.dirty c.self.inside.hung.items (c.self.inside.hung_only + c.from.result) l c.self.inside.barred.items) (sym c.remove_out_of.ensures.pairs)
+          (kept_drop c.self.inside.dirty c.self.inside.hung.items c.self.inside.hung_only c.self.inside.live.pairs c.self.inside.barred.items c.self.invariant.0 c.args.page ready c.lower_each.new.dirty pages (c.self.inside.hung_only + c.from.result)
+          there (rw c.lower_each.ensures.pages c.leave.ensures.rising) (subst AreRising c.remove_out_of.ensures.pairs c.remove_out_of.ensures.rising) (ap (λ n. c.self.inside.hung_only + n) count)
           (λ b. let e = ap (λ (l : List Pair). ends_at l b) out in let same = c.leave.ensures.counts b in let is = c.lower_each.ensures.counts b in omega arith)),
       record {
         dirty = omega (arith, c.lower_each.ensures.room, c.leave.ensures.room, fits.dirty);
@@ -74,20 +74,20 @@ invariant_of-self c =
 
 pub returns : goal.returns
 returns c =
-    let was = subst IsGraph c.self.view_is (graph_of c.self.inside.dirty c.self.inside.hung.items c.self.inside.hung_only c.self.inside.live.items c.self.inside.barred.items _ _ c.self.invariant.0) in
-    let is = graph_of c.lower_each.new.dirty c.self.inside.hung.items (c.self.inside.hung_only + c.from.result) c.remove_out_of.new.pairs.items c.self.inside.barred.items c.self.inside.spare_nodes c.self.inside.spare_edges (invariant_of-self c).0 in
+    let was = subst IsGraph c.self.view_is (graph_of c.self.inside.dirty c.self.inside.hung.items c.self.inside.hung_only c.self.inside.live.pairs c.self.inside.barred.items _ _ c.self.invariant.0) in
+    let is = graph_of c.lower_each.new.dirty c.self.inside.hung.items (c.self.inside.hung_only + c.from.result) c.remove_out_of.new.self.pairs c.self.inside.barred.items c.self.inside.spare_nodes c.self.inside.spare_edges (invariant_of-self c).0 in
     let dirty = λ (a : ℕ). ap (λ (l : List ℕ). holds l a) c.lower_each.ensures.pages ∙ c.leave.ensures.pages a ∙ ap (λ (g : GraphLists). dirty_in g a && not (eqb a c.args.page)) c.self.view_is in
     let hung = ap (λ (g : GraphLists). g.hung) c.self.view_is in
     record {
       dirty = dirty;
       hung = hung;
       live = λ a b.
-          live_is c.remove_out_of.new.pairs.items c.self.inside.barred.items a b ∙ ap (λ (l : List Pair). has_pair l a b) c.remove_out_of.ensures.items ∙ has_not_from c.self.inside.live.items c.args.page a b
-          ∙ ap (λ x. x && not (eqb a c.args.page)) (sym (live_is c.self.inside.live.items c.self.inside.barred.items a b) ∙ ap (λ (g : GraphLists). live_in g a b) c.self.view_is);
-      barred = λ a b. barred_is c.remove_out_of.new.pairs.items c.self.inside.barred.items a b ∙ sym (barred_is c.self.inside.live.items c.self.inside.barred.items a b) ∙ ap (λ (g : GraphLists). barred_in g a b) c.self.view_is;
+          live_is c.remove_out_of.new.self.pairs c.self.inside.barred.items a b ∙ ap (λ (l : List Pair). has_pair l a b) c.remove_out_of.ensures.pairs ∙ has_not_from c.self.inside.live.pairs c.args.page a b
+          ∙ ap (λ x. x && not (eqb a c.args.page)) (sym (live_is c.self.inside.live.pairs c.self.inside.barred.items a b) ∙ ap (λ (g : GraphLists). live_in g a b) c.self.view_is);
+      barred = λ a b. barred_is c.remove_out_of.new.self.pairs c.self.inside.barred.items a b ∙ sym (barred_is c.self.inside.live.pairs c.self.inside.barred.items a b) ∙ ap (λ (g : GraphLists). barred_in g a b) c.self.view_is;
       waiters = λ a.
-          waiters_are c.remove_out_of.new.pairs.items c.self.inside.barred.items a ∙ ap (λ (l : List Pair). length (from_page l a)) c.remove_out_of.ensures.items ∙ from_others c.self.inside.live.items c.args.page a
-          ∙ ap (λ n. if eqb a c.args.page then 0 else n) (sym (waiters_are c.self.inside.live.items c.self.inside.barred.items a) ∙ ap (λ (g : GraphLists). waiter_count g a) c.self.view_is);
+          waiters_are c.remove_out_of.new.self.pairs c.self.inside.barred.items a ∙ ap (λ (l : List Pair). length (from_page l a)) c.remove_out_of.ensures.pairs ∙ from_others c.self.inside.live.pairs c.args.page a
+          ∙ ap (λ n. if eqb a c.args.page then 0 else n) (sym (waiters_are c.self.inside.live.pairs c.self.inside.barred.items a) ∙ ap (λ (g : GraphLists). waiter_count g a) c.self.view_is);
       spare_nodes = ap (λ (g : GraphLists). g.spare_nodes) c.self.view_is;
       spare_edges = ap (λ (g : GraphLists). g.spare_edges) c.self.view_is;
       graph = is;
@@ -98,5 +98,5 @@ returns c =
 pub returns-then-not-contains : goal.returns-then-not-contains
 returns-then-not-contains c =
     let off = sym (ap (λ (g : GraphLists). dirty_in g c.args.page) c.self.view_is) ∙ sym c.contains.ensures ∙ c.if-not-contains.true in
-    let graph = subst IsGraph c.self.view_is (graph_of c.self.inside.dirty c.self.inside.hung.items c.self.inside.hung_only c.self.inside.live.items c.self.inside.barred.items _ _ c.self.invariant.0) in
+    let graph = subst IsGraph c.self.view_is (graph_of c.self.inside.dirty c.self.inside.hung.items c.self.inside.hung_only c.self.inside.live.pairs c.self.inside.barred.items _ _ c.self.invariant.0) in
     not_dirty c.args.page c.args.self.now graph off

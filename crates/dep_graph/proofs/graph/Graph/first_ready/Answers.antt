@@ -7,7 +7,7 @@ use Rattle.dep_graph.proofs.graph.Graph.first_ready.Goals as goal
 
 same : (c : goal.After-first_ready) (a : ℕ) → (holds c.self.inside.dirty.pages a && eqb (waits_for c.self.inside.dirty a) 0) ≡ is_ready c.args.self.now a
 same c a =
-    ready_is c.self.inside.dirty c.self.inside.hung.items c.self.inside.hung_only c.self.inside.live.items c.self.inside.barred.items a c.self.invariant.0
+    ready_is c.self.inside.dirty c.self.inside.hung.items c.self.inside.hung_only c.self.inside.live.pairs c.self.inside.barred.items a c.self.invariant.0
     ∙ ap (λ (g : GraphLists). is_ready g a) c.self.view_is
 
 pub returns : goal.returns

@@ -1,40 +1,46 @@
-use Rattle.std.proofs.Common.{◌≡◌, ◌∙◌, ◌&&◌, inl, inr, sym, ap, true, ℕ, List, length, eqb, arith}
-use Rattle.std.proofs.lemmas.Bool.{and_parts, true≢false}
+use Rattle.std.proofs.Common.{◌≡◌, ◌∙◌, ◌&&◌, ℕ, List, true, eqb, sym, ap, subst, arith}
 use Rattle.dep_graph.specs.declared.pairs.Pair.{Pair}
 use Rattle.dep_graph.specs.Pages.{holds}
-use Rattle.dep_graph.specs.Pairs.{has_pair}
+use Rattle.dep_graph.specs.Pairs.{AreRising, has_pair}
 use Rattle.order_model.specs.Paths.{Closes}
 use Rattle.dep_graph.specs.Waits.{waits_for}
 use Rattle.dep_graph.specs.Lists.{GraphLists, is_ready, live_in}
-use Rattle.dep_graph.proofs.GraphLemmas.{least_of_first, least_same, live_is, no_way_to, ready_is}
-use Rattle.dep_graph.proofs.PathLemmas.{closes_more, way_more}
+use Rattle.dep_graph.proofs.GraphLemmas.{least_same, live_is, ready_is}
+use Rattle.dep_graph.proofs.PathLemmas.{closes_turned}
 use Rattle.dep_graph.proofs.graph.Graph.first_ready_before.Goals as goal
 
-pub returns-then-not-contains-clause-least : goal.returns-then-not-contains-clause-least
-returns-then-not-contains-clause-least c =
-    let off = sym c.contains.ensures ∙ c.if-not-contains.true in
-    λ a h. absurd (elim h.1 [
-      | inl same ↦
-          let ready = ready_is c.self.inside.dirty c.self.inside.hung.items c.self.inside.hung_only c.self.inside.live.items c.self.inside.barred.items a c.self.invariant.0 ∙ ap (λ (g : GraphLists). is_ready g a) c.self.view_is ∙ h.0 in
-          true≢false (sym (and_parts _ _ ready).0 ∙ ap (holds c.self.inside.dirty.pages) (sym same) ∙ off)
-      | inr way ↦ no_way_to c.self.inside.dirty c.self.inside.hung.items c.self.inside.hung_only c.self.inside.live.items c.self.inside.barred.items a c.args.target c.self.invariant.0 off
-          (way_more (λ x y e. sym (live_is c.self.inside.live.items c.self.inside.barred.items x y) ∙ ap (λ (g : GraphLists). live_in g x y) c.self.view_is ∙ e) way)
-    ])
+pub list_reaching-requires-clause-back_rising : goal.list_reaching-requires-clause-back_rising
+list_reaching-requires-clause-back_rising c = subst AreRising (sym c.back.ensures.pairs) c.back.ensures.turned.back_rising
 
-pub first_reaching-requires-clause-room : goal.first_reaching-requires-clause-room
-first_reaching-requires-clause-room c = omega (arith, c.self.invariant.1.search_fits, ap length c.pages.ensures.pages)
+pub list_reaching-requires-clause-ends : goal.list_reaching-requires-clause-ends
+list_reaching-requires-clause-ends c = λ a b h.
+    let e = c.self.invariant.0.live_ends b a (sym (c.back.ensures.turned.turned b a) ∙ ap (λ (l : List Pair). has_pair l a b) (sym c.back.ensures.pairs) ∙ h) in
+    (e.1, e.0)
 
-same : (c : goal.After-first_reaching) (a b : ℕ) → has_pair c.deref.result.now a b ≡ live_in c.args.self.now a b
-same c a b = ap (λ (l : List Pair). has_pair l a b) c.deref.ensures.value ∙ sym (live_is c.self.inside.live.items c.self.inside.barred.items a b) ∙ ap (λ (g : GraphLists). live_in g a b) c.self.view_is
+pub list_reaching-requires-clause-room : goal.list_reaching-requires-clause-room
+list_reaching-requires-clause-room c = omega (arith, c.self.invariant.1.search_fits)
 
-ready : (c : goal.After-first_reaching) (a : ℕ) → (holds c.self.inside.dirty.pages a && eqb (waits_for c.self.inside.dirty a) 0) ≡ is_ready c.args.self.now a
-ready c a = ready_is c.self.inside.dirty c.self.inside.hung.items c.self.inside.hung_only c.self.inside.live.items c.self.inside.barred.items a c.self.invariant.0 ∙ ap (λ (g : GraphLists). is_ready g a) c.self.view_is
+pub list_reaching-requires-clause-listed_room : goal.list_reaching-requires-clause-listed_room
+list_reaching-requires-clause-listed_room c = omega (arith, c.self.invariant.1.left_fits)
+
+-- the look-up in the lists is the look-up in the vector
+edge : (c : goal.After-first_from) (a b : ℕ) → has_pair c.back.result.now b a ≡ live_in c.args.self.now a b
+edge c a b =
+    ap (λ (l : List Pair). has_pair l b a) c.back.ensures.pairs ∙ c.back.ensures.turned.turned a b ∙ sym (live_is c.self.inside.live.pairs c.self.inside.barred.items a b)
+    ∙ ap (λ (g : GraphLists). live_in g a b) c.self.view_is
+
+ready : (c : goal.After-first_from) (a : ℕ) → (holds c.self.inside.dirty.pages a && eqb (waits_for c.self.inside.dirty a) 0) ≡ is_ready c.args.self.now a
+ready c a = ready_is c.self.inside.dirty c.self.inside.hung.items c.self.inside.hung_only c.self.inside.live.pairs c.self.inside.barred.items a c.self.invariant.0 ∙ ap (λ (g : GraphLists). is_ready g a) c.self.view_is
+
+to_lists : (c : goal.After-first_from) (a : ℕ) → holds c.list_reaching.new.listed.items a ≡ true → (is_ready c.args.self.now a ≡ true) × Closes (live_in c.args.self.now) c.args.target a
+to_lists c a h =
+    let p = (c.list_reaching.ensures.listed a).0 h in
+    (sym (ready c a) ∙ p.0, closes_turned (has_pair c.back.result.now) (live_in c.args.self.now) a c.args.target (λ x y e. sym (edge c y x) ∙ e) p.1)
+
+from_lists : (c : goal.After-first_from) (a : ℕ) → (is_ready c.args.self.now a ≡ true) × Closes (live_in c.args.self.now) c.args.target a → holds c.list_reaching.new.listed.items a ≡ true
+from_lists c a h = (c.list_reaching.ensures.listed a).1 (ready c a ∙ h.0, closes_turned (live_in c.args.self.now) (has_pair c.back.result.now) c.args.target a (λ x y e. edge c x y ∙ e) h.1)
 
 pub returns-clause-least : goal.returns-clause-least
 returns-clause-least c =
-    least_same (λ page. ((holds c.self.inside.dirty.pages page && eqb (waits_for c.self.inside.dirty page) 0) ≡ true) × Closes (has_pair c.deref.result.now) c.args.target page)
-    (λ page. (is_ready c.args.self.now page ≡ true) × Closes (live_in c.args.self.now) c.args.target page) c.args.from c.first_reaching.result
-    (λ a h. (sym (ready c a) ∙ h.0, closes_more (has_pair c.deref.result.now) (live_in c.args.self.now) c.args.target a (λ x y e. sym (same c x y) ∙ e) h.1))
-    (λ a h. (ready c a ∙ h.0, closes_more (live_in c.args.self.now) (has_pair c.deref.result.now) c.args.target a (λ x y e. same c x y ∙ e) h.1))
-    (least_of_first (λ page. Closes (has_pair c.deref.result.now) c.args.target page) (λ a. holds c.self.inside.dirty.pages a && eqb (waits_for c.self.inside.dirty a) 0) c.ready_from.result.now c.args.from c.first_reaching.result
-    c.ready_from.ensures.rising c.ready_from.ensures.pages c.first_reaching.ensures.first)
+    least_same (λ page. holds c.deref.result.now page ≡ true) (λ page. (is_ready c.args.self.now page ≡ true) × Closes (live_in c.args.self.now) c.args.target page) c.args.from c.first_from.result
+    (λ a h. to_lists c a (ap (λ (l : List ℕ). holds l a) (sym c.deref.ensures.value) ∙ h)) (λ a h. ap (λ (l : List ℕ). holds l a) c.deref.ensures.value ∙ from_lists c a h) c.first_from.ensures

@@ -4,7 +4,7 @@ use Rattle.dep_graph.proofs.KeptLemmas.{nothing_kept}
 use Rattle.dep_graph.proofs.graph.Graph.new.Goals as goal
 
 pub invariant_of-result : goal.invariant_of-result
-invariant_of-result c = let none = ap length c.new.ensures in rw (c.new-2.ensures.items, c.new-3.ensures.items, c.new-4.ensures.items) (
+invariant_of-result c = let none = ap length c.new.ensures in rw (c.new-2.ensures.items, c.new-3.ensures, c.new-4.ensures.items) (
   nothing_kept c.new.result c.new.ensures,
   record {
     dirty = omega arith;
@@ -22,4 +22,4 @@ invariant_of-result c = let none = ap length c.new.ensures in rw (c.new-2.ensure
 )
 
 pub returns-clause-graph : goal.returns-clause-graph
-returns-clause-graph c = graph_of c.new.result c.new-2.result.items 0 c.new-3.result.items c.new-4.result.items 0 0 (invariant_of-result c).0
+returns-clause-graph c = graph_of c.new.result c.new-2.result.items 0 c.new-3.result.pairs c.new-4.result.items 0 0 (invariant_of-result c).0

@@ -11,4 +11,4 @@ returns-clause-count c =
     omega (arith, c.dirty.ensures, c.self.invariant.0.alone)
 
 pub returns-clause-graph : goal.returns-clause-graph
-returns-clause-graph c = subst IsGraph c.self.view_is (graph_of c.self.inside.dirty c.self.inside.hung.items c.self.inside.hung_only c.self.inside.live.items c.self.inside.barred.items _ _ c.self.invariant.0)
+returns-clause-graph c = subst IsGraph c.self.view_is (graph_of c.self.inside.dirty c.self.inside.hung.items c.self.inside.hung_only c.self.inside.live.pairs c.self.inside.barred.items _ _ c.self.invariant.0)
