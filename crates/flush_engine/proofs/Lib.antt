@@ -1,4 +1,5 @@
 pub mod Snoc
+pub mod Listed
 pub mod TallyLemmas
 pub mod GraphAfter
 pub mod Chains

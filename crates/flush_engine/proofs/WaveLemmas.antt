@@ -1,98 +1,70 @@
 -- A wave, page by page, and waves, one after another.
-use Rattle.std.proofs.Common.{◌≡◌, ◌⊎◌, inl, inr, ◌<◌, ◌≤◌, ◌+◌, ℕ, Bool, true, false, not, ◌&&◌, List, [], ◌∷◌, ◌++◌, length, min, eqb, eqb-true, eq-eqb, refl, sym, ◌∙◌, ap, subst, arith, Option, Some, None, Result, Ok, Err}
-use Rattle.std.proofs.lemmas.Bool.{and_parts, cases_Bool, cases_lt, or_cases, or_left, or_right, true≢false}
+use Rattle.std.proofs.Common.{◌≡◌, ◌⊎◌, inl, inr, ◌<◌, ◌≤◌, ◌+◌, ℕ, Bool, true, false, not, ◌&&◌, List, [], ◌∷◌, ◌++◌, length, take, get_or, min, eq-eqb, refl, sym, ◌∙◌, ap, subst, arith, Option, Result, Ok, Err}
+use Rattle.std.proofs.lemmas.Bool.{and_parts, or_left, true≢false}
 use Rattle.page_device.specs.declared.error.Failed.{Failed}
 use Rattle.dep_graph.specs.Lists.{GraphLists, IsGraph, barred_in, dirty_in, is_ready, live_in}
-use Rattle.dep_graph.specs.Pages.{holds, IsLeast}
-use Rattle.dep_graph.specs.Rising.{Rises}
-use Rattle.dep_graph.specs.Schedules.{MakeBarrier, Schedule, Step, WritePage}
-use Rattle.dep_graph.proofs.PageLemmas.{fewer, fewer_by_one}
+use Rattle.dep_graph.specs.Pages.{holds, IsRising}
+use Rattle.dep_graph.specs.Schedules.{MakeBarrier, Schedule, WritePage}
+use Rattle.dep_graph.proofs.PageLemmas.{fewer, fewer_by_one, found}
 use Rattle.flush_engine.specs.Telling.{Telling}
 use Rattle.flush_engine.specs.View.{Moment}
-use Rattle.flush_engine.specs.Steps.{Chain, StepEnds, StepFailed, Steps, WriteDone}
-use Rattle.flush_engine.specs.Waves.{AreDueBelow, GoesOn, IsDue, IsNext, WaveDone, WaveEnds, WaveFailed, WavesDone, WavesEnd, steps_of, wave_steps, writes}
+use Rattle.flush_engine.specs.Steps.{Chain, StepEnds, Steps, WriteDone}
+use Rattle.flush_engine.specs.Waves.{AreDue, GoesOn, WaveDone, WaveEnds, WaveFailed, WavesDone, WavesEnd, WritesFailed, steps_of, wave_steps, writes}
 use Rattle.flush_engine.proofs.Chains.{chain_fixed, chain_none, chain_one, chain_split, chain_then, chain_wrote}
-use Rattle.flush_engine.proofs.DueLemmas.{due_ready, due_still, due_was, some_due}
-use Rattle.flush_engine.proofs.GraphAfter.{AllWrote, ready_dirty}
-use Rattle.flush_engine.proofs.Snoc.{any_snoc, map_snoc, rises_snoc}
+use Rattle.flush_engine.proofs.DueLemmas.{due_ready, some_due, still_ready}
+use Rattle.flush_engine.proofs.GraphAfter.{ready_dirty}
+use Rattle.flush_engine.proofs.Snoc.{map_snoc}
+use Rattle.flush_engine.proofs.Listed.{below_taken, not_taken, rises_take, take_snoc, taken_below, taken_held}
 
-module _ {W : Type 0} (T : Telling W) (target : Option ℕ) where
-  -- the pages below a number that are due are written
-  pub record SoFar (from : ℕ) (old now : Moment W) : Type 0 where
-    pub pages : List ℕ
-    pub written : AreDueBelow old.engine.graph target from pages
-    pub chain : Chain T (writes pages) old now
+module _ {W : Type 0} (T : Telling W) where
+  -- of pages that were ready, the one whose turn has come is ready still
+  pub next_ready : (pages : List ℕ) (k : ℕ) (old now : Moment W) → IsRising pages → k < length pages → ((a : ℕ) → holds pages a ≡ true → is_ready old.engine.graph a ≡ true)
+      → Chain T (writes (take k pages)) old now → is_ready now.engine.graph (get_or pages k 0) ≡ true
+  next_ready pages k old now up lt ready chain =
+      still_ready (take k pages) old.engine.graph now.engine.graph (chain_wrote T (take k pages) old now chain) (get_or pages k 0) (ready (get_or pages k 0) (found pages k (get_or pages k 0) lt refl)) (not_taken pages k up lt)
 
-  pub so_far_none : (a : Moment W) → SoFar 0 a a
-  unfolding Rises
-  so_far_none a = record {
-    pages = [];
-    written = record { rising = tt; due = λ q h. absurd (true≢false (sym h)); below = λ q h. absurd (true≢false (sym h)); all = λ q d lt. absurd (omega (arith, lt)) };
-    chain = chain_none T a;
+  pub written_next : (pages : List ℕ) (k : ℕ) (old now new : Moment W) → k < length pages → Chain T (writes (take k pages)) old now → WriteDone T (get_or pages k 0) now new → Chain T (writes (take (k + 1) pages)) old new
+  written_next pages k old now new lt chain step =
+      subst (λ (x : Schedule). Chain T x old new) (sym (ap writes (take_snoc pages k lt) ∙ map_snoc WritePage (take k pages) (get_or pages k 0)))
+      (chain_then T (writes (take k pages)) (WritePage (get_or pages k 0) ∷ []) old now new chain (chain_one T (WritePage (get_or pages k 0)) now new step))
+
+module _ {W : Type 0} (T : Telling W) (target : Option ℕ) (old : Moment W) (on : GoesOn old.engine.graph target) (pages : List ℕ) (due : AreDue old.engine.graph target pages) where
+  -- the write of one of the pages failed
+  pub write_failed : (new : Moment W) → WritesFailed T pages old new → WaveFailed T target old new
+  write_failed new f = record {
+    goes_on = on;
+    from = get_or pages f.done 0;
+    pages = take f.done pages;
+    written = record {
+      rising = rises_take pages f.done due.rising;
+      due = λ a h. due.due a (taken_held pages f.done a h);
+      below = λ a h. taken_below pages f.done a due.rising f.within h;
+      all = λ a d lt. below_taken pages f.done a due.rising f.within (due.all a d) lt;
+    };
+    last = f.last;
+    chain = f.chain;
+    step = WritePage (get_or pages f.done 0);
+    next = (due.due (get_or pages f.done 0) (found pages f.done (get_or pages f.done 0) f.within refl), omega arith, λ a d le. le);
+    failed = f.failed;
   }
 
-  module _ (from : ℕ) (old now : Moment W) (s : SoFar from old now) where
-    after : AllWrote s.pages old.engine.graph now.engine.graph
-    after = chain_wrote T s.pages old now s.chain
-
-    ready : (a : ℕ) → holds s.pages a ≡ true → is_ready old.engine.graph a ≡ true
-    ready a h = due_ready old.engine.graph target a (s.written.due a h)
-
-    was : (a : ℕ) → IsDue now.engine.graph target a → IsDue old.engine.graph target a
-    was a d = due_was s.pages old.engine.graph now.engine.graph after ready target a d
-
-    still : (a : ℕ) → IsDue old.engine.graph target a → from ≤ a → IsDue now.engine.graph target a
-    still a d le = due_still s.pages old.engine.graph now.engine.graph after ready target a d (elim (cases_Bool (holds s.pages a)) [
-      | inr off ↦ off
-      | inl on ↦ absurd (let lt = s.written.below a on in omega (arith, lt, le))
-    ])
-
-    pub is_next : (page : ℕ) → IsLeast (IsDue now.engine.graph target) from (Some page) → IsNext old.engine.graph target from (WritePage page)
-    is_next page least = (was page least.0, least.1, λ a d le. least.2 a (still a d le) le)
-
-    pub none_next : IsLeast (IsDue now.engine.graph target) from None → IsNext old.engine.graph target from MakeBarrier
-    none_next least = λ a d. elim (cases_lt a from) [
-      | inl lt ↦ lt
-      | inr ge ↦ absurd (let lt = least a (still a d (omega (arith, ge))) in omega (arith, lt, ge))
-    ]
-
-    pub so_far_then : (page : ℕ) (new : Moment W) → IsLeast (IsDue now.engine.graph target) from (Some page) → WriteDone T page now new → SoFar (page + 1) old new
-    so_far_then page new least w =
-        let next = is_next page least in
-        record {
-          pages = s.pages ++ page ∷ [];
-          written = record {
-            rising = rises_snoc s.pages page s.written.rising (λ a h. let lt = s.written.below a h in let le = least.1 in omega (arith, lt, le));
-            due = λ a h. elim (or_cases (holds s.pages a) (eqb page a) (sym (any_snoc s.pages page a) ∙ h)) [
-              | inl before ↦ s.written.due a before
-              | inr here ↦ subst (IsDue old.engine.graph target) (eqb-true page a here) next.0
-            ];
-            below = λ a h. elim (or_cases (holds s.pages a) (eqb page a) (sym (any_snoc s.pages page a) ∙ h)) [
-              | inl before ↦ let lt = s.written.below a before in let le = least.1 in omega (arith, lt, le)
-              | inr here ↦ let is = eqb-true page a here in omega (arith, is)
-            ];
-            all = λ a d lt. any_snoc s.pages page a ∙ elim (cases_lt a from) [
-              | inl before ↦ or_left _ _ (s.written.all a d before)
-              | inr ge ↦ or_right _ _ (let le = next.2 a d (omega (arith, ge)) in let same : page ≡ a = omega (arith, le, lt) in eq-eqb page a same)
-            ];
-          };
-          chain = subst (λ (x : Schedule). Chain T x old new) (sym (map_snoc WritePage s.pages page)) (chain_then T (writes s.pages) (WritePage page ∷ []) old now new s.chain (chain_one T (WritePage page) now new w));
-        }
-
-    pub wave_failed : (new : Moment W) (step : Step) → GoesOn old.engine.graph target → IsNext old.engine.graph target from step → StepFailed T step now new → WaveFailed T target old new
-    wave_failed new step on next failed = record { goes_on = on; from = from; pages = s.pages; written = s.written; last = now; chain = s.chain; step = step; next = next; failed = failed }
-
-    -- a wave ends with its barrier
-    pub wave_ends : (new : Moment W) (result : Result Unit Failed) → GoesOn old.engine.graph target → IsLeast (IsDue now.engine.graph target) from None → StepEnds T MakeBarrier result now new → WaveEnds T target result old new
-    wave_ends new (Ok _) on least step = (
-      s.pages,
-      record {
-        goes_on = on;
-        due = record { rising = s.written.rising; due = s.written.due; all = λ a d. s.written.all a d (none_next least a d) };
-        chain = chain_then T (writes s.pages) (MakeBarrier ∷ []) old now new s.chain (chain_one T MakeBarrier now new step);
-      },
-    )
-    wave_ends new (Err _) on least step = wave_failed new MakeBarrier on (none_next least) step
+  -- all were written, and the wave ends with its barrier; each page is below a number
+  pub wave_ends : (above : ℕ) → ((a : ℕ) → is_ready old.engine.graph a ≡ true → a < above) → (now new : Moment W) (result : Result Unit Failed) → Chain T (writes pages) old now → StepEnds T MakeBarrier result now new → WaveEnds T target result old new
+  wave_ends above within now new (Ok _) chain step = (
+    pages,
+    record { goes_on = on; due = due; chain = chain_then T (writes pages) (MakeBarrier ∷ []) old now new chain (chain_one T MakeBarrier now new step) },
+  )
+  wave_ends above within now new (Err _) chain step = record {
+    goes_on = on;
+    from = above;
+    pages = pages;
+    written = record { rising = due.rising; due = due.due; below = λ a h. within a (due_ready old.engine.graph target a (due.due a h)); all = λ a d lt. due.all a d };
+    last = now;
+    chain = chain;
+    step = MakeBarrier;
+    next = λ a d. within a (due_ready old.engine.graph target a d);
+    failed = step;
+  }
 
 -- what a wave makes of the graph
 pub record Waved (pages : List ℕ) (g h : GraphLists) : Type 0 where

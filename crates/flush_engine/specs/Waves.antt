@@ -1,5 +1,5 @@
 -- Waves: all pages that are due, in rising order, and then a barrier.
-use Rattle.std.specs.Prelude.{◌≡◌, ◌<◌, ℕ, ◌++◌, true, false, List, [], ◌∷◌, map, Option, Some, None, Result, Ok, Err}
+use Rattle.std.specs.Prelude.{◌≡◌, ◌<◌, ℕ, ◌++◌, true, false, List, [], ◌∷◌, length, map, slice_index, take, Option, Some, None, Result, Ok, Err}
 use Rattle.page_device.specs.declared.error.Failed.{Failed}
 use Rattle.order_model.specs.Paths.{Closes}
 use Rattle.dep_graph.specs.Lists.{GraphLists, is_node, is_ready, live_in}
@@ -53,8 +53,21 @@ abbrev pub IsNext : GraphLists → Option ℕ → ℕ → Step → Type 0
 IsNext g target from (WritePage page) = IsLeast (IsDue g target) from (Some page)
 IsNext g target from MakeBarrier = IsLeast (IsDue g target) from None
 
+module _ {W : Type 0} (T : Telling W) where
+  -- these pages were written up to one of which the write failed
+  pub record WritesFailed (pages : List ℕ) (old new : Moment W) : Type 0 where
+    pub done : ℕ
+    pub within : done < length pages
+    pub last : Moment W
+    pub chain : Chain T (writes (take done pages)) old last
+    pub failed : StepFailed T (WritePage (slice_index pages done)) last new
+
+  abbrev pub WritesEnd : List ℕ → Result Unit Failed → Moment W → Moment W → Type 0
+  WritesEnd pages (Ok _) old new = Chain T (writes pages) old new
+  WritesEnd pages (Err _) old new = WritesFailed pages old new
+
 module _ {W : Type 0} (T : Telling W) (target : Option ℕ) where
-  -- What is due is said of the graph at the start of the wave: what is due then stays due until it is written, and nothing becomes due before the barrier.
+  -- what is due is said of the graph at the start of the wave
   pub record WaveDone (pages : List ℕ) (old new : Moment W) : Type 0 where
     pub goes_on : GoesOn old.engine.graph target
     pub due : AreDue old.engine.graph target pages

@@ -33,8 +33,9 @@ use std::marker::Model;
 #[derive(Drop)]
 pub struct Engine {
     writer: Writer,
-    // The offers of an idle turn. There is room for each page that may be dirty.
+    // The offers of an idle turn, and the pages of a wave. There is room for each page that may be dirty.
     offers: Vec<Offer>,
+    due: Vec<u32>,
 }
 
 impl Model for Engine {
@@ -45,7 +46,7 @@ impl Model for Engine {
 
     ghost view = { λ e. e.writer };
 
-    ghost invariant = { λ e. e.writer.room ≤ vec_capacity e.offers };
+    ghost invariant = { λ e. (e.writer.room ≤ vec_capacity e.offers) × (e.writer.room ≤ vec_capacity e.due) };
 }
 
 impl Engine {
@@ -64,12 +65,19 @@ impl Engine {
         let Ok(offers) = Vec::with_capacity(alloc, tallies.capacity()) else {
             return Err(NoMemory);
         };
+        let Ok(due) = Vec::with_capacity(alloc, tallies.capacity()) else {
+            return Err(NoMemory);
+        };
         let writer = Writer {
             cache,
             graph: Graph::new(alloc),
             tallies,
         };
-        Ok(Engine { writer, offers })
+        Ok(Engine {
+            writer,
+            offers,
+            due,
+        })
     }
 
     /// Lends the cache: afterwards the engine is as before, with the cache as it was left. Constant.
@@ -160,9 +168,9 @@ impl Engine {
     /// Writes what a page waits for, and then the page, in waves: while it is dirty or hung, each ready page that is this one or has
     /// a way of Live edges to it, in rising page number, and then a barrier. So after `Ok` the page is neither.
     ///
-    /// For each page that it writes, and once more in each wave, it searches along Live edges from ready pages, and costs what these
-    /// lead to, each page and edge once a search; beside it the edges of the pages that are written, and moving small elements of
-    /// sorted vectors.
+    /// Once in each wave it searches from the page backwards along Live edges, and costs the pages from which a way of Live edges
+    /// leads to it, and their edges; beside it the edges of the pages that are written, and moving small elements of sorted
+    /// vectors. Of other pages it looks at none, ready or not.
     pub fn settle<D: Device, W: Watch>(
         &mut self,
         device: &mut D,
@@ -174,7 +182,7 @@ impl Engine {
         ensures steps { Steps W.told result (at (D.seen device.old) self.old watch.old) (at (D.seen device.new) self.new watch.new) }
         ensures returned { Returned result (at (D.seen device.old) self.old watch.old) (at (D.seen device.new) self.new watch.new) }
     {
-        self.writer.waves(device, Some(page), watch)
+        self.writer.waves(device, Some(page), &mut self.due, watch)
     }
 
     /// Writes every dirty page, in waves: while some page is dirty or hung, each ready page in rising page number, and then a
@@ -192,7 +200,7 @@ impl Engine {
         ensures steps { Steps W.told result (at (D.seen device.old) self.old watch.old) (at (D.seen device.new) self.new watch.new) }
         ensures returned { Returned result (at (D.seen device.old) self.old watch.old) (at (D.seen device.new) self.new watch.new) }
     {
-        self.writer.waves(device, None, watch)
+        self.writer.waves(device, None, &mut self.due, watch)
     }
 
     /// One round of an idle step: offers the ready pages to a policy, in rising page number with their ages, edits and waiters,

@@ -1,44 +1,41 @@
-use Rattle.std.proofs.Common.{◌≡◌, true, sym, arith, subst, Err}
+use Rattle.std.proofs.Common.{◌≡◌, ◌∙◌, true, List, ℕ, sym, ap, subst, Err}
 use Rattle.dep_graph.specs.Lists.{is_ready}
-use Rattle.dep_graph.specs.Schedules.{MakeBarrier, WritePage}
-use Rattle.flush_engine.specs.View.{EngineView, at}
-use Rattle.flush_engine.specs.Steps.{StepEnds, WriteDone, WriteFailed}
+use Rattle.dep_graph.specs.Pages.{holds, IsRising}
+use Rattle.dep_graph.specs.Schedules.{MakeBarrier}
+use Rattle.flush_engine.specs.View.{EngineView, Returned, at}
+use Rattle.flush_engine.specs.Steps.{Chain}
+use Rattle.flush_engine.specs.Waves.{WritesFailed, writes}
 use Rattle.flush_engine.proofs.DueLemmas.{due_ready}
-use Rattle.flush_engine.proofs.FitLemmas.{no_failure, returned_none, step_returned}
+use Rattle.flush_engine.proofs.FitLemmas.{no_failure, step_returned}
 use Rattle.flush_engine.proofs.GraphAfter.{ready_dirty}
-use Rattle.flush_engine.proofs.WaveLemmas.{is_next, so_far_none, so_far_then, wave_ends, wave_failed}
+use Rattle.flush_engine.proofs.WaveLemmas.{wave_ends, write_failed}
 use Rattle.flush_engine.proofs.writer.Writer.wave.Goals as goal
 
-pub loop-page-init : goal.loop-page-init
-loop-page-init g c = record { so_far = so_far_none g.W.Watch.told c.args.target _; returned = returned_none g.W.Watch.told _ c.requires.fits; few = omega arith }
+pub write_each-requires-clause-rising : goal.write_each-requires-clause-rising
+write_each-requires-clause-rising g c = subst IsRising (sym c.deref.ensures.value) c.list_due.ensures.due.rising
 
-pub write-requires-clause-ready : goal.write-requires-clause-ready
-write-requires-clause-ready g c = subst (λ (e : EngineView). is_ready e.graph c.in-Some.page ≡ true) (sym c.in-Some.ensures.same) (due_ready c.loop-page.self.graph c.args.target c.in-Some.page c.in-Some.ensures.least.0)
-
-pub loop-page-preserved : goal.loop-page-preserved
-loop-page-preserved g c =
-    let step = subst (λ (e : EngineView). WriteDone g.W.Watch.told c.in-Some.page (at (g.D.Device.seen c.loop-page.device) e c.loop-page.watch) (at (g.D.Device.seen c.write.new.device) c.write.new.self c.write.new.watch)) c.in-Some.ensures.same c.in-Ok.ensures.step in
-    let ready = due_ready c.loop-page.self.graph c.args.target c.in-Some.page c.in-Some.ensures.least.0 in
-    record {
-      so_far = so_far_then g.W.Watch.told c.args.target c.loop-page.from _ _ c.loop-page.invariant.so_far c.in-Some.page _ c.in-Some.ensures.least step;
-      returned = step_returned g.W.Watch.told no_failure (WritePage c.in-Some.page) no_failure _ _ _ c.loop-page.invariant.returned c.in-Ok.ensures.cause step;
-      few = omega (arith, c.loop-page.invariant.returned.fits.within c.in-Some.page (ready_dirty c.loop-page.self.graph c.in-Some.page ready), c.loop-page.invariant.returned.pages);
-    }
+pub write_each-requires-clause-ready : goal.write_each-requires-clause-ready
+write_each-requires-clause-ready g c = λ a h.
+    subst (λ (e : EngineView). is_ready e.graph a ≡ true) (sym c.list_due.ensures.same) (due_ready c.args.self.now.graph c.args.target a (c.list_due.ensures.due.due a (ap (λ (l : List ℕ). holds l a) (sym c.deref.ensures.value) ∙ h)))
 
 pub returns-in-Err-clause-wave : goal.returns-in-Err-clause-wave
 returns-in-Err-clause-wave g c =
-    let step = subst (λ (e : EngineView). WriteFailed g.W.Watch.told c.in-Some.page (at (g.D.Device.seen c.loop-page.device) e c.loop-page.watch) (at (g.D.Device.seen c.write.new.device) c.write.new.self c.write.new.watch)) c.in-Some.ensures.same c.in-Err.ensures.step in
-    wave_failed g.W.Watch.told c.args.target c.loop-page.from _ _ c.loop-page.invariant.so_far _ (WritePage c.in-Some.page) c.requires.goes_on (is_next g.W.Watch.told c.args.target c.loop-page.from _ _ c.loop-page.invariant.so_far c.in-Some.page c.in-Some.ensures.least) step
+    let moved = subst (λ (e : EngineView). WritesFailed g.W.Watch.told c.deref.result.now (at (g.D.Device.seen c.args.device.now) e c.args.watch.now) (at (g.D.Device.seen c.write_each.new.device) c.write_each.new.self c.write_each.new.watch)) c.list_due.ensures.same c.in-Err.ensures.writes in
+    write_failed g.W.Watch.told c.args.target (at (g.D.Device.seen c.args.device.now) c.args.self.now c.args.watch.now) c.requires.goes_on c.list_due.new.due.items c.list_due.ensures.due _
+    (subst (λ (l : List ℕ). WritesFailed g.W.Watch.told l (at (g.D.Device.seen c.args.device.now) c.args.self.now c.args.watch.now) (at (g.D.Device.seen c.write_each.new.device) c.write_each.new.self c.write_each.new.watch)) c.deref.ensures.value moved)
 
 pub returns-in-Err-clause-returned : goal.returns-in-Err-clause-returned
-returns-in-Err-clause-returned g c =
-    let step = subst (λ (e : EngineView). WriteFailed g.W.Watch.told c.in-Some.page (at (g.D.Device.seen c.loop-page.device) e c.loop-page.watch) (at (g.D.Device.seen c.write.new.device) c.write.new.self c.write.new.watch)) c.in-Some.ensures.same c.in-Err.ensures.step in
-    step_returned g.W.Watch.told no_failure (WritePage c.in-Some.page) (Err c.in-Err.failed) _ _ _ c.loop-page.invariant.returned c.in-Err.ensures.cause step
+returns-in-Err-clause-returned g c = subst (λ (e : EngineView). Returned (Err c.in-Err.failed) (at (g.D.Device.seen c.args.device.now) e c.args.watch.now) (at (g.D.Device.seen c.write_each.new.device) c.write_each.new.self c.write_each.new.watch)) c.list_due.ensures.same c.in-Err.ensures.returned
 
 pub returns-clause-wave : goal.returns-clause-wave
-returns-clause-wave g c = wave_ends g.W.Watch.told c.args.target c.loop-page.from _ _ c.loop-page.invariant.so_far _ c.barrier.result c.requires.goes_on c.in_default.ensures.least
-    (subst (λ (e : EngineView). StepEnds g.W.Watch.told MakeBarrier c.barrier.result (at (g.D.Device.seen c.loop-page.device) e c.loop-page.watch) (at (g.D.Device.seen c.barrier.new.device) c.barrier.new.self c.barrier.new.watch)) c.in_default.ensures.same c.barrier.ensures.step)
+returns-clause-wave g c =
+    let moved = subst (λ (e : EngineView). Chain g.W.Watch.told (writes c.deref.result.now) (at (g.D.Device.seen c.args.device.now) e c.args.watch.now) (at (g.D.Device.seen c.write_each.new.device) c.write_each.new.self c.write_each.new.watch)) c.list_due.ensures.same c.in-Ok.ensures.writes in
+    wave_ends g.W.Watch.told c.args.target (at (g.D.Device.seen c.args.device.now) c.args.self.now c.args.watch.now) c.requires.goes_on c.list_due.new.due.items c.list_due.ensures.due (g.D.Device.seen c.args.device.now).pages
+    (λ a r. c.requires.fits.within a (ready_dirty c.args.self.now.graph a r)) (at (g.D.Device.seen c.write_each.new.device) c.write_each.new.self c.write_each.new.watch) _ c.barrier.result
+    (subst (λ (l : List ℕ). Chain g.W.Watch.told (writes l) (at (g.D.Device.seen c.args.device.now) c.args.self.now c.args.watch.now) (at (g.D.Device.seen c.write_each.new.device) c.write_each.new.self c.write_each.new.watch)) c.deref.ensures.value moved)
+    c.barrier.ensures.step
 
 pub returns-clause-returned : goal.returns-clause-returned
-returns-clause-returned g c = step_returned g.W.Watch.told no_failure MakeBarrier c.barrier.result _ _ _ c.loop-page.invariant.returned c.barrier.ensures.cause
-    (subst (λ (e : EngineView). StepEnds g.W.Watch.told MakeBarrier c.barrier.result (at (g.D.Device.seen c.loop-page.device) e c.loop-page.watch) (at (g.D.Device.seen c.barrier.new.device) c.barrier.new.self c.barrier.new.watch)) c.in_default.ensures.same c.barrier.ensures.step)
+returns-clause-returned g c =
+    let moved = subst (λ (e : EngineView). Returned no_failure (at (g.D.Device.seen c.args.device.now) e c.args.watch.now) (at (g.D.Device.seen c.write_each.new.device) c.write_each.new.self c.write_each.new.watch)) c.list_due.ensures.same c.in-Ok.ensures.returned in
+    step_returned g.W.Watch.told no_failure MakeBarrier c.barrier.result _ _ _ moved c.barrier.ensures.cause c.barrier.ensures.step

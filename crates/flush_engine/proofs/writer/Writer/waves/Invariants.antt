@@ -1,4 +1,4 @@
-use Rattle.std.proofs.Common.{ℕ, List}
+use Rattle.std.proofs.Common.{◌≤◌, ℕ, List, vec_capacity}
 use Rattle.flush_engine.specs.View.{Returned, at}
 use Rattle.flush_engine.specs.Waves.{WavesDone}
 use Rattle.flush_engine.proofs.FitLemmas.{no_failure}
@@ -9,6 +9,7 @@ abbrev pub invariant-loop-target : goal.invariant-loop-target
 invariant-loop-target g l = record {
   waves : (waves : List (List ℕ)) × WavesDone g.W.Watch.told l.target waves (at (g.D.Device.seen l.fn.device) l.fn.self l.fn.watch) (at (g.D.Device.seen l.device) l.self l.watch);
   returned : Returned no_failure (at (g.D.Device.seen l.fn.device) l.fn.self l.fn.watch) (at (g.D.Device.seen l.device) l.self l.watch);
+  room : vec_capacity l.fn.due ≤ vec_capacity l.due;
 }
 
 abbrev pub decreases-loop-target : goal.decreases-loop-target
