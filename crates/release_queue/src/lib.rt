@@ -2,7 +2,8 @@
 //!
 //! A block that drops the name of a data page owes it a decrement of its count: a release. The count may be lowered on the
 //! device only after the map page without the name is fixed there, and it may become 0 only after the print page without the
-//! page's print is. A release waits in a queue until edges of the graph can say so without closing a cycle.
+//! page's print is. A release waits in a queue until edges of the graph can say so without closing a cycle. A pass over the queue
+//! has to look at few of those that wait: each has a mark that says whether something changed for it since the last look.
 //! `specs/Queued.antt` has the queue as a list, `specs/Needed.antt` the edges that a release needs, and when it is blocked.
 #![tactic(auto)]
 
@@ -41,6 +42,9 @@ pub struct Release {
     pub print_at: u32,
     /// [`NOT_WRITTEN`], [`WRITTEN`], [`FIXED`] or [`UNBORN`].
     pub stage: u8,
+    /// Whether the next pass has to look at it: since the last look its count page was written, or its data page's count or print
+    /// changed. Without that a release that had to wait has to wait still.
+    pub look: bool,
 }
 
 /// What has to stand between two pages before a release is applied.

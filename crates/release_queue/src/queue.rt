@@ -1,6 +1,7 @@
 // The queue.
-ghost use Rattle.std.specs.Prelude.{◌≡◌, ◌<◌, ◌≤◌, ◌++◌, ◌∷◌, [], suc, eqb, false, length, map, take, drop, remove, slice_index_or, IfOk};
-ghost use Rattle.release_queue.specs.Queued.{IsQueue, after_barrier, after_write};
+ghost use Rattle.std.specs.Prelude.{◌≡◌, ◌<◌, ◌≤◌, ◌++◌, ◌∷◌, [], suc, eqb, true, false, length, map, take, drop, remove, slice_index_or, vec_capacity, IfOk};
+ghost use Rattle.dep_graph.specs.Pages.{IsLeast};
+ghost use Rattle.release_queue.specs.Queued.{IsQueue, after_barrier, after_change, after_count_write, after_write, is_marked, pushed, unmarked};
 ghost use Rattle.release_queue.specs.declared.TheConstants.{UNBORN};
 
 use crate::{FIXED, NOT_WRITTEN, NoMemory, Release, WRITTEN};
@@ -14,17 +15,19 @@ use std::marker::Model;
 pub struct Queue {
     releases: Vec<Release>,
     limit: u32,
+    // No release before this place is to be looked at.
+    first_look: u32,
 }
 
 impl Model for Queue {
     ghost use Rattle.std.specs.Prelude.{◌≤◌, vec_capacity};
-    ghost use Rattle.release_queue.specs.Queued.{IsQueue, QueueLists};
+    ghost use Rattle.release_queue.specs.Queued.{IsLook, IsQueue, QueueLists};
 
     ghost Value = { QueueLists };
 
     ghost view = { λ q. record { releases = q.releases.items; limit = q.limit } };
 
-    ghost invariant = { λ q. (q.limit ≤ vec_capacity q.releases) × IsQueue (record { releases = q.releases.items; limit = q.limit }) };
+    ghost invariant = { λ q. (q.limit ≤ vec_capacity q.releases) × IsQueue (record { releases = q.releases.items; limit = q.limit }) × IsLook q.releases.items q.first_look };
 }
 
 impl Release {
@@ -45,6 +48,24 @@ impl Release {
             self.stage = FIXED;
         }
     }
+
+    // Its count page was written.
+    fn count_written(&mut self, count_page: u32)
+        ensures { self.new ≡ after_count_write count_page self.old }
+    {
+        if self.count_at == count_page {
+            self.look = true;
+        }
+    }
+
+    // The count or the print of a data page changed.
+    fn page_changed(&mut self, page: u32)
+        ensures { self.new ≡ after_change page self.old }
+    {
+        if self.page == page {
+            self.look = true;
+        }
+    }
 }
 
 fn write_map(releases: &mut [Release], map_page: u32)
@@ -53,6 +74,37 @@ fn write_map(releases: &mut [Release], map_page: u32)
     for release in releases.iter_mut() {
         release.map_written(map_page);
     }
+}
+
+fn write_count(releases: &mut [Release], count_page: u32)
+    ensures { releases.new ≡ map (after_count_write count_page) releases.old }
+{
+    for release in releases.iter_mut() {
+        release.count_written(count_page);
+    }
+}
+
+fn change(releases: &mut [Release], page: u32)
+    ensures { releases.new ≡ map (after_change page) releases.old }
+{
+    for release in releases.iter_mut() {
+        release.page_changed(page);
+    }
+}
+
+fn append(releases: &mut Vec<Release>, release: Release)
+    requires { length releases.old.items < vec_capacity releases.old }
+    ensures items { releases.new.items ≡ releases.old.items ++ release ∷ [] }
+    ensures room { vec_capacity releases.new ≡ vec_capacity releases.old }
+{
+    releases.push_reserved(release);
+}
+
+fn unmark(releases: &mut [Release], i: usize)
+    requires { i < length releases.old }
+    ensures { releases.new ≡ unmarked i releases.old }
+{
+    releases[i].look = false;
 }
 
 fn fix(releases: &mut [Release])
@@ -70,7 +122,11 @@ impl Queue {
         ensures { IfOk result (λ queue. queue ≡ record { releases = []; limit = limit }) }
     {
         match Vec::with_capacity(alloc, limit as usize) {
-            Ok(releases) => Ok(Queue { releases, limit }),
+            Ok(releases) => Ok(Queue {
+                releases,
+                limit,
+                first_look: 0,
+            }),
             Err(_) => Err(NoMemory),
         }
     }
@@ -90,13 +146,20 @@ impl Queue {
         self.len() == self.limit
     }
 
-    /// Puts a release at the end of a queue that is not full. Constant.
+    /// Puts a release at the end of a queue that is not full. It is to be looked at. Constant.
     pub fn push(&mut self, release: Release)
         requires room { eqb (length self.old.releases) self.old.limit ≡ false }
         requires stage { release.stage ≤ UNBORN }
-        ensures { self.new ≡ record self.old { releases = self.old.releases ++ release ∷ [] } }
+        ensures { self.new ≡ record self.old { releases = self.old.releases ++ pushed release ∷ [] } }
     {
-        let _ = self.releases.push(release);
+        self.first_look = self.first_look.min(self.len());
+        append(
+            &mut self.releases,
+            Release {
+                look: true,
+                ..release
+            },
+        );
     }
 
     /// The release at place `i`, counted from 0, of those that wait. Constant.
@@ -116,7 +179,48 @@ impl Queue {
         ensures split { self.old.releases ≡ take i self.old.releases ++ result ∷ drop (suc i) self.old.releases }
         ensures others { self.new ≡ record self.old { releases = remove self.old.releases i } }
     {
+        self.first_look = self.first_look.min(i);
         self.releases.remove(i as usize)
+    }
+
+    /// The first place from `from` on whose release is to be looked at. It costs the releases that it passes over; those at the front
+    /// of the queue that were looked at cost nothing until one of them is to be looked at again.
+    pub fn next_look(&self, from: u32) -> Option<u32>
+        ensures { IsLeast (λ i. is_marked self.now.releases i ≡ true) from result }
+    {
+        for i in from.max(self.first_look)..self.len() {
+            if self.releases[i as usize].look {
+                return Some(i);
+            }
+        }
+        None
+    }
+
+    /// The release at place `i` was looked at, and stays. Constant.
+    pub fn looked(&mut self, i: u32)
+        requires { i < length self.old.releases }
+        ensures { self.new ≡ record self.old { releases = unmarked i self.old.releases } }
+    {
+        unmark(&mut self.releases, i as usize);
+        if self.first_look == i {
+            self.first_look = i + 1;
+        }
+    }
+
+    /// A count page was written: its releases are to be looked at. Once over the queue.
+    pub fn count_written(&mut self, count_page: u32)
+        ensures { self.new ≡ record self.old { releases = map (after_count_write count_page) self.old.releases } }
+    {
+        write_count(&mut self.releases, count_page);
+        self.first_look = 0;
+    }
+
+    /// The count or the print of a data page changed: its releases are to be looked at. Once over the queue.
+    pub fn page_changed(&mut self, page: u32)
+        ensures { self.new ≡ record self.old { releases = map (after_change page) self.old.releases } }
+    {
+        change(&mut self.releases, page);
+        self.first_look = 0;
     }
 
     /// A map page was written: of its releases those at stage [`NOT_WRITTEN`] move to [`WRITTEN`]. Once over the queue.

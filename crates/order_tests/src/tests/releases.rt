@@ -80,6 +80,7 @@ fn owed(pages: (u32, u32, u32), stage: u8) -> Release
         count_at: pages.1,
         print_at: pages.2,
         stage: stage.min(UNBORN),
+        look: true,
     }
 }
 
@@ -152,6 +153,43 @@ fn moves_on(rt: HostRuntime) -> Result<(), NoMemory> {
     assert!(&rt; remove(&mut queue, 1) == Some(owed((2, 3, 5), NOT_WRITTEN)));
     assert!(&rt; stages(&queue) == [Some(FIXED), Some(UNBORN), None]);
     assert!(&rt; queue.len() == 2 && !queue.full());
+    Ok(())
+}
+
+fn looked(queue: &mut Queue, i: u32) {
+    if i < queue.len() {
+        queue.looked(i);
+    }
+}
+
+// Those that are to be looked at, as a pass finds them.
+fn looks(queue: &Queue) -> [bool; 3] {
+    let mut looks = [false; 3];
+    for i in 0..3u32 {
+        looks[i as usize] = queue.next_look(i) == Some(i);
+    }
+    looks
+}
+
+// All three were looked at, and then something changed: the pages of a call, and which of the releases it frees.
+#[test]
+fn looks_again(rt: HostRuntime) -> Result<(), NoMemory> {
+    let mut queue = Queue::new(rt.alloc(), 3)?;
+    for count_page in [3, 4, 3] {
+        assert!(&rt; push(&mut queue, (1, count_page, 5), NOT_WRITTEN));
+    }
+    assert!(&rt; looks(&queue) == [true, true, true]);
+    for i in 0..3u32 {
+        looked(&mut queue, i);
+    }
+    assert!(&rt; queue.next_look(0) == None);
+    queue.map_written(1);
+    queue.fixed();
+    assert!(&rt; queue.next_look(0) == None);
+    queue.count_written(4);
+    assert!(&rt; looks(&queue) == [false, true, false]);
+    queue.page_changed(1);
+    assert!(&rt; looks(&queue) == [true, true, true]);
     Ok(())
 }
 
