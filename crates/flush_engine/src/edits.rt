@@ -19,6 +19,13 @@ impl Writer {
         self.graph.nodes() as usize >= self.tallies.capacity()
     }
 
+    // How many pages there is room for.
+    pub(crate) fn room(&self) -> usize
+        ensures { result ≡ self.now.room }
+    {
+        self.tallies.capacity()
+    }
+
     // Enters a page in the graph, and counts one edit.
     pub(crate) fn mark(&mut self, page: u32)
         requires spare { is_node self.old.graph page ≡ false → 0 < self.old.graph.spare_nodes }

@@ -110,6 +110,13 @@ impl Engine {
         &self.writer.graph
     }
 
+    /// How many pages may be dirty or hung at a time. Constant.
+    pub fn room(&self) -> usize
+        ensures { result ≡ self.now.room }
+    {
+        self.writer.room()
+    }
+
     /// Whether as many pages are dirty or hung as there is room for. Then only such a page may be touched. Constant.
     pub fn is_full(&self) -> bool
         ensures { result ≡ nat_le self.now.room (node_count self.now.graph) }
