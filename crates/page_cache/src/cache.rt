@@ -301,6 +301,13 @@ impl Cache {
         settle(&mut self.pages, &mut self.recent, page, true);
     }
 
+    /// How often a page is held; 0 where it is not there. The order of the list stays. Constant.
+    pub fn holds(&self, page: u32) -> u32
+        ensures { result ≡ holds_in self.now page }
+    {
+        holds(&self.pages, page)
+    }
+
     /// The content of a page, if it is there. The order of the list stays. Constant.
     pub fn look(&self, page: u32) -> Option<&Page>
         ensures { MatchOption result (content_in self.now page ≡ None) (λ found. content_in self.now page ≡ Some found.now) }
