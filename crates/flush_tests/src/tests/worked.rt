@@ -122,6 +122,37 @@ const CHAIN_CALLS: &[Call] = &[
     Barrier,
 ];
 
+// A settle of page 6, to which page 4 alone leads, while others are ready: two below them and one between them, and page 7 once page
+// 4 is on the device. The settle writes none of these.
+const AMONG_OTHERS: &[Step] = &[
+    Touch(0),
+    Touch(2),
+    Touch(4),
+    Touch(5),
+    Touch(6),
+    Touch(7),
+    Touch(3),
+    Order(4, 6),
+    Order(4, 7),
+    Order(0, 3),
+    Settle(6),
+    Flush,
+];
+
+const AMONG_OTHERS_CALLS: &[Call] = &[
+    Write(4),
+    Barrier,
+    Write(6),
+    Barrier,
+    Write(0),
+    Write(2),
+    Write(5),
+    Write(7),
+    Barrier,
+    Write(3),
+    Barrier,
+];
+
 fn are_calls(alloc: Global, steps: &[Step], wanted: &[Call]) -> bool {
     match run(alloc, steps, 0, false) {
         Some(ran) => is_log(ran.device.log(), wanted) && is_told(&ran.watch.calls, wanted),
@@ -159,6 +190,7 @@ fn worked_graphs(rt: HostRuntime) {
         (SETTLED, SETTLED_CALLS),
         (TURNED, TURNED_CALLS),
         (CHAIN, CHAIN_CALLS),
+        (AMONG_OTHERS, AMONG_OTHERS_CALLS),
     ] {
         assert!(&rt; are_calls(rt.alloc(), steps, calls));
         assert!(&rt; each_fails_alike(rt.alloc(), steps));

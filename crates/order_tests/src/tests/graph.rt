@@ -1,5 +1,6 @@
 // The graph beside a plain program over tables of marks and edges, and the levels of whole sessions.
 use dep_graph::{Graph, Kind, NoMemory};
+use std::alloc::Global;
 use std::process::Abort;
 
 const PAGES: usize = 5;
@@ -299,6 +300,53 @@ fn compare_ways(rt: &impl Abort, graph: &mut Graph, plain: &Plain) {
     }
 }
 
+// The first of some pages that is not below a number.
+fn first_listed(listed: &[u32], from: u32) -> Option<u32> {
+    for page in listed {
+        if *page >= from {
+            return Some(*page);
+        }
+    }
+    None
+}
+
+// The ready pages, and those of them that lead to a page.
+fn list_ready(alloc: Global, graph: &Graph) -> Result<Vec<u32>, NoMemory> {
+    let Ok(mut listed) = Vec::with_capacity(alloc, graph.dirty() as usize) else {
+        return Err(NoMemory);
+    };
+    graph.list_ready(&mut listed);
+    Ok(listed)
+}
+
+fn list_before(alloc: Global, graph: &mut Graph, target: u32) -> Result<Vec<u32>, NoMemory> {
+    let Ok(mut listed) = Vec::with_capacity(alloc, graph.dirty() as usize) else {
+        return Err(NoMemory);
+    };
+    graph.list_ready_before(target, &mut listed);
+    Ok(listed)
+}
+
+fn compare_listed(rt: &impl Abort, listed: &[u32], plain: &Plain, target: Option<u32>) {
+    for from in 0..5u32 {
+        assert!(rt; first_listed(listed, from) == first(plain, from, target));
+    }
+}
+
+fn compare_lists(
+    rt: &(impl Abort + AllocGlobal),
+    graph: &mut Graph,
+    plain: &Plain,
+) -> Result<(), NoMemory> {
+    let listed = list_ready(rt.alloc(), graph)?;
+    compare_listed(rt, &listed, plain, None);
+    for target in 0..5u32 {
+        let listed = list_before(rt.alloc(), graph, target)?;
+        compare_listed(rt, &listed, plain, Some(target));
+    }
+    Ok(())
+}
+
 fn compare_counts(rt: &impl Abort, graph: &mut Graph, plain: &Plain) {
     assert!(rt; graph.dirty() == count(&plain.dirty));
     assert!(rt; graph.hung() == count(&plain.hung));
@@ -319,6 +367,7 @@ fn run(rt: &(impl Abort + AllocGlobal), steps: &[Step]) -> Result<(), NoMemory> 
         assert!(rt; made == plain.step(*step));
         compare_marks(rt, &mut graph, &plain);
         compare_ways(rt, &mut graph, &plain);
+        compare_lists(rt, &mut graph, &plain)?;
         compare_counts(rt, &mut graph, &plain);
     }
     Ok(())
