@@ -1,0 +1,12 @@
+use Rattle.store_core.specs.Views.{lent}
+use Rattle.store_core.proofs.Going.{call_goes, core_fits}
+use Rattle.store_core.proofs.Core.settle.Goals as goal
+
+pub settle-requires : goal.settle-requires
+settle-requires g c = record { fits = core_fits c.args.self.now.shape (lent (g.D.Device.seen c.args.device.now) c.args.self.now) c.requires.room c.args.self.now.whole }
+
+pub invariant_of-self : goal.invariant_of-self
+invariant_of-self g c = record { whole = (call_goes c.args.self.now.shape c.settle.result _ _ c.settle.ensures.steps).whole c.requires.room c.args.self.now.whole }
+
+pub returns-clause-flows : goal.returns-clause-flows
+returns-clause-flows g c = (call_goes c.args.self.now.shape c.settle.result _ _ c.settle.ensures.steps).flows c.requires.room c.args.self.now.whole _

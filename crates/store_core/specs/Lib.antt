@@ -1,0 +1,17 @@
+pub mod Layout
+pub mod Ledger
+pub mod Whole
+pub mod Props
+pub mod Views
+pub mod Stands
+pub mod Frames
+pub mod Edits
+pub mod Counted
+pub mod Named
+pub mod Printed
+pub mod Placed
+pub mod Applied
+pub mod Quiet
+pub mod Room
+pub mod Fetching
+pub mod Weaker

@@ -1,0 +1,40 @@
+//! The core of the store: what is kept between commands, and the small steps that commands are made of.
+//!
+//! A [`Core`] has the pages in memory with their order, and a [`Ledger`] of what is owed and of what may be on the device. Each
+//! step says in its contract what it makes of the plain state that `engine_model` has its laws about (`specs/Views.antt`), and
+//! that the core stands for the same arrays as before, or for which others (`specs/Stands.antt`). What every core keeps, whatever
+//! the device, is `IsWhole` of `specs/Whole.antt`.
+#![tactic(auto)]
+
+ghost use Rattle.store_core.specs.Props.{IsWhole-prop};
+ghost use Rattle.store_core.specs.Whole.{IsWhole};
+
+mod blocking;
+mod counting;
+mod fetching;
+mod laws;
+mod ledger;
+mod marking;
+mod naming;
+mod placing;
+mod printing;
+mod releasing;
+mod room;
+mod waves;
+
+pub use blocking::blocked_alike;
+use flush_engine::Engine;
+pub use laws::{image_is_good, images_are_fit, settled, weaker};
+pub use ledger::Ledger;
+use page_layout::Shape;
+pub use placing::given_page_is_free;
+pub use room::NoRoom;
+
+/// What is kept between commands, but for the policy, the index of prints and the totals.
+#[derive(Drop)]
+pub struct Core {
+    shape: Shape,
+    engine: Engine,
+    ledger: Ledger,
+    ghost whole: { IsWhole shape engine ledger } by { IsWhole-prop shape engine ledger },
+}
