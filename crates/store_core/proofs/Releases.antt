@@ -4,7 +4,7 @@ use Rattle.std.specs.List.{All}
 use Rattle.std.proofs.lemmas.List.Elements.{All-cons, All-head, All-nil, All-tail, All-map}
 use Rattle.page_layout.specs.Shape.{ShapeView}
 use Rattle.release_queue.specs.declared.Release.{Release}
-use Rattle.release_queue.specs.Queued.{after_barrier, after_count_write, after_write}
+use Rattle.release_queue.specs.Queued.{after_barrier, after_change, after_count_write, after_write}
 use Rattle.engine_model.specs.DeviceSteps.{fixed_release, written_release}
 use Rattle.store_core.specs.Layout.{lay_of}
 use Rattle.store_core.specs.Quiet.{unmoved}
@@ -20,6 +20,11 @@ moved_by_write shape page (r ∷ rs) all = rw (moved_by_write shape page rs (All
 pub moved_by_barrier : (rs : List Release) → map plain_release (map after_barrier rs) ≡ map fixed_release (map plain_release rs)
 moved_by_barrier [] = refl
 moved_by_barrier (r ∷ rs) = rw (moved_by_barrier rs)
+
+-- a mark changes none
+pub moved_by_change : (p : ℕ) (rs : List Release) → map plain_release (map (after_change p) rs) ≡ map plain_release rs
+moved_by_change p [] = refl
+moved_by_change p (r ∷ rs) = rw (moved_by_change p rs) refl
 
 -- and changes in its stage and its mark alone
 pub stages_written : (page : ℕ) (rs : List Release) → map unmoved (map (after_count_write page) (map (after_write page) rs)) ≡ map unmoved rs
@@ -44,3 +49,6 @@ module _ (shape : ShapeView) where
 
   pub placed_fixed : (rs : List Release) → All (IsPlaced shape) rs → All (IsPlaced shape) (map after_barrier rs)
   placed_fixed rs all = placed_map after_barrier (λ r h. record { block = h.block; first = h.first; last = h.last; map_at = h.map_at; count_at = h.count_at; print_at = h.print_at }) rs all
+
+  pub placed_changed : (p : ℕ) (rs : List Release) → All (IsPlaced shape) rs → All (IsPlaced shape) (map (after_change p) rs)
+  placed_changed p rs all = placed_map (after_change p) (λ r h. record { block = h.block; first = h.first; last = h.last; map_at = h.map_at; count_at = h.count_at; print_at = h.print_at }) rs all

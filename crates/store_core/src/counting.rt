@@ -4,13 +4,15 @@ use page_cache::edits_one_page;
 use release_queue::Release;
 
 impl Core {
-    ghost use Rattle.std.specs.Prelude.{◌≡◌, ◌<◌, ◌≤◌, ℕ, List, Bool, true, Some, slice_get};
+    ghost use Rattle.std.specs.Prelude.{◌≡◌, ◌<◌, ◌≤◌, ℕ, List, Bool, true, Some, map, slice_get};
     ghost use Rattle.page_layout.specs.Shape.{count_page};
     ghost use Rattle.page_cache.specs.View.{holds_in, is_there};
     ghost use Rattle.dep_graph.specs.Lists.{dirty_in};
     ghost use Rattle.ref_counts.specs.Counts.{count_in};
+    ghost use Rattle.release_queue.specs.Queued.{after_change};
     ghost use Rattle.store_core.specs.Counted.{LowerStands, RaiseStands};
-    ghost use Rattle.store_core.specs.Edits.{LowersCount, RaisesCount};
+    ghost use Rattle.store_core.specs.Edits.{LowersCount, Makes, RaisesCount};
+    ghost use Rattle.store_core.specs.Frames.{KeepsStands};
     ghost use Rattle.store_core.specs.Layout.{top};
     ghost use Rattle.store_core.specs.Views.{page_in};
 
@@ -64,5 +66,17 @@ impl Core {
         if left == 0 {
             self.ledger.pool.zeroed(release.page);
         }
+    }
+
+    /// The count or the print of a data page changed, so that a pass has to look at its releases again: one that had to wait may be
+    /// free to go. What the core stands for stays. Once over the queue.
+    pub fn look_again(&mut self, p: u32)
+        ensures ledger { self.new.ledger ≡ record self.old.ledger { queue = record self.old.ledger.queue { releases = map (after_change p) self.old.ledger.queue.releases } } }
+        ensures shape { self.new.shape ≡ self.old.shape }
+        ensures engine { self.new.engine ≡ self.old.engine }
+        ensures world { Makes (λ w. w) self.old self.new }
+        ensures stands { KeepsStands self.old self.new }
+    {
+        self.ledger.queue.page_changed(p);
     }
 }
