@@ -9,8 +9,6 @@ mod hashes;
 mod maps;
 mod prints;
 mod tables;
-#[cfg(test)]
-mod tests;
 mod verdict;
 
 pub use checking::check;

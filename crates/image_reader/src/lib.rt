@@ -7,8 +7,6 @@
 mod entries;
 mod reading;
 mod tallies;
-#[cfg(test)]
-mod tests;
 
 pub use entries::malformed_entry;
 pub use reading::{find_shape, read_into, read_page};

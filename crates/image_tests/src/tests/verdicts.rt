@@ -1,6 +1,6 @@
 // What is found in images made by hand.
-use crate::tests::bench::{Byte, FIVE, FIVE_OF_2, Print, SIX, ZEROS, formatted, image};
-use crate::{CheckError, Verdict, check};
+use crate::tests::images::{Byte, FIVE, FIVE_OF_2, Print, SIX, ZEROS, formatted, image};
+use image_check::{CheckError, Verdict, check};
 use page_device::{Damage, MemDevice};
 use page_layout::Shape;
 use std::alloc::Global;
@@ -36,12 +36,18 @@ fn low(page: u32, stored: u32, named: u32) -> Verdict {
 }
 
 // One with a low count, also one with a wrong print on the same page.
-fn low_counts() -> [Row; 4] {
+fn low_counts() -> [Row; 6] {
     [
         (&[(1, 0, 1)], &[], low(1, 0, 1)),
         (&[(1, 0, 1)], &[(3, 0, [1; 20])], low(1, 0, 1)),
         (&[(1, 0, 3), (1, 4, 3), (2, 8, 1)], &[], low(3, 1, 2)),
         (&[(1, 0, 4), (1, 4, 2), (2, 0, 9)], &[], low(2, 0, 1)),
+        (&[(1, 0, 4), (1, 8, 1), (1, 12, 4)], &[], low(1, 0, 1)),
+        (
+            &[(1, 0, 4), (1, 8, 1), (1, 12, 4), (2, 0, 1)],
+            &[],
+            low(4, 0, 2),
+        ),
     ]
 }
 
@@ -77,48 +83,49 @@ fn sound(waste: u64) -> Verdict {
     Verdict::Sound { waste }
 }
 
-fn sounds() -> [Row; 5] {
+fn sounds() -> [Row; 6] {
     [
         (&[], &[], sound(0)),
         (&ONE, &[(3, 0, FIVE)], sound(0)),
         (&ONE_OF_2, &[(3, 0, FIVE_OF_2)], sound(0)),
         (&[(1, 0, 1), (2, 0, 3), (4, 7, 5)], &[], sound(2)),
         (&[(2, 4, 7), (2, 8, 1)], &[(3, 1, ZEROS)], sound(8)),
+        (
+            &[(1, 0, 4), (1, 8, 1), (1, 12, 4), (2, 0, 1), (2, 12, 2)],
+            &[],
+            sound(0),
+        ),
     ]
 }
 
-// Checks an image, and that no write and no barrier was made.
-fn is_found(rt: &impl Abort, alloc: Global, shape: &Shape, row: &Row) -> Result<(), Fail> {
-    let (bytes, prints, verdict) = row;
-    let mut device = image(alloc, shape, bytes, prints)?;
-    let before = device.calls();
-    assert_eq!(rt; check(alloc, &mut device), Ok(*verdict));
-    assert_eq!(rt; device.calls(), before);
+// Checks images of a shape. No write and no barrier is made.
+fn are_found(rt: &impl Abort, alloc: Global, shape: &Shape, rows: &[Row]) -> Result<(), Fail> {
+    for (bytes, prints, verdict) in rows {
+        let mut device = image(alloc, shape, bytes, prints)?;
+        assert_eq!(rt; check(alloc, &mut device), Ok(*verdict), "{bytes:?}");
+        assert_eq!(rt; device.calls(), 0);
+    }
     Ok(())
 }
 
 #[test]
-fn finds_malformed_entries_and_low_counts(rt: HostRuntime) -> Result<(), Fail> {
-    let shape = Shape::new(4, 4)?;
-    for row in malformed() {
-        is_found(&rt, rt.alloc(), &shape, &row)?;
-    }
-    for row in low_counts() {
-        is_found(&rt, rt.alloc(), &shape, &row)?;
-    }
-    Ok(())
+fn finds_malformed_entries(rt: HostRuntime) -> Result<(), Fail> {
+    are_found(&rt, rt.alloc(), &Shape::new(4, 4)?, &malformed())
+}
+
+#[test]
+fn finds_low_counts(rt: HostRuntime) -> Result<(), Fail> {
+    are_found(&rt, rt.alloc(), &Shape::new(4, 4)?, &low_counts())
 }
 
 #[test]
 fn finds_prints(rt: HostRuntime) -> Result<(), Fail> {
-    let shape = Shape::new(4, 4)?;
-    for row in prints() {
-        is_found(&rt, rt.alloc(), &shape, &row)?;
-    }
-    for row in sounds() {
-        is_found(&rt, rt.alloc(), &shape, &row)?;
-    }
-    Ok(())
+    are_found(&rt, rt.alloc(), &Shape::new(4, 4)?, &prints())
+}
+
+#[test]
+fn finds_that_all_is_sound(rt: HostRuntime) -> Result<(), Fail> {
+    are_found(&rt, rt.alloc(), &Shape::new(4, 4)?, &sounds())
 }
 
 // An image of 1025 blocks and 1025 data pages, the last of which stand in table pages of their own: the
@@ -142,11 +149,7 @@ fn last_pages() -> [Row; 4] {
 
 #[test]
 fn finds_what_the_last_pages_hold(rt: HostRuntime) -> Result<(), Fail> {
-    let shape = Shape::new(1025, 1025)?;
-    for row in last_pages() {
-        is_found(&rt, rt.alloc(), &shape, &row)?;
-    }
-    Ok(())
+    are_found(&rt, rt.alloc(), &Shape::new(1025, 1025)?, &last_pages())
 }
 
 fn not_formatted(rt: &impl Abort, alloc: Global, mut device: MemDevice) {
@@ -167,5 +170,37 @@ fn finds_no_image(rt: HostRuntime) -> Result<(), Fail> {
         rt.alloc(),
         MemDevice::holding(rt.alloc(), Vec::new(rt.alloc())),
     );
+    Ok(())
+}
+
+// Block 0 names data page 1, which has a fingerprint: page 0, three table pages and the one data page are read.
+fn one(alloc: Global) -> Result<MemDevice, Fail> {
+    image(
+        alloc,
+        &Shape::new(4, 4)?,
+        &[(1, 0, 1), (2, 0, 1), (4, 7, 5)],
+        &[(3, 0, FIVE)],
+    )
+}
+
+#[test]
+fn tells_a_fault(rt: HostRuntime) -> Result<(), Fail> {
+    for read in 1..6 {
+        let mut device = one(rt.alloc())?;
+        device.fail_read(read)?;
+        assert_eq!(rt;
+            check(rt.alloc(), &mut device),
+            Err(CheckError::Device),
+            "read {read}"
+        );
+        assert_eq!(rt; device.reads(), read);
+        assert_eq!(rt;
+            check(rt.alloc(), &mut device),
+            Ok(Verdict::Sound { waste: 0 })
+        );
+    }
+    let mut device = one(rt.alloc())?;
+    device.fail_room(1)?;
+    assert_eq!(rt; check(rt.alloc(), &mut device), Err(CheckError::Device));
     Ok(())
 }
