@@ -37,8 +37,6 @@ mod names;
 mod number;
 mod scan;
 mod settings;
-#[cfg(test)]
-mod tests;
 
 use clap_command::find_values;
 pub use jobs::{Job, WordsError};

@@ -25,6 +25,3 @@ pub use option_reply::{OptionReply, option_reply_head};
 pub use reply::{ErrorNumber, reply_bytes};
 pub use request::{BadMagic, FUA, Request, read_request, request_bytes};
 pub use request_kind::RequestKind;
-
-#[cfg(test)]
-mod tests;

@@ -29,6 +29,3 @@ pub use number::read_number;
 pub use parsing::{Bad, parse};
 pub use replies::{damage_text, reply_text};
 pub use reply::{Halt, Reply, ScanReport, Stat};
-
-#[cfg(test)]
-mod tests;

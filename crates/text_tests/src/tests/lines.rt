@@ -1,12 +1,12 @@
 // Rows of the trace language: lines and what they read as, and the text of each reply.
-use crate::{
+use page_device::{Damage, Page};
+use trace_text::{
     Halt, LineBuf, Reply, ScanReport, Stat, command_text, formatted_text, low_count_text, parse,
     print_on_zero_text, read_number, reply_text, sound_text, wrong_print_text,
 };
-use page_device::{Damage, Page};
 
 // The line that a line is read as, with its LF, or no bytes where it is bad.
-#[tactic(auto, using(crate::proofs::Shapes::has_line))]
+#[tactic(auto, using(trace_text::proofs::Shapes::has_line))]
 fn read_as(line: &[u8]) -> LineBuf {
     let mut text = LineBuf::new();
     if let Ok(command) = parse(line) {
@@ -127,97 +127,77 @@ fn shows(reply: Reply, want: &[u8]) -> bool {
 
 #[test]
 fn replies_of_one_word(rt: HostRuntime) {
-    assert!(rt; shows(Reply::Done, b"7 ok\n"));
-    assert!(rt; shows(Reply::Range, b"7 range\n"));
-    assert!(rt; shows(Reply::Fault, b"7 fault\n"));
-    assert!(rt; shows(Reply::NoMemory, b"7 nomem\n"));
-    assert!(rt; shows(Reply::NoPolicy, b"7 nopolicy\n"));
-    assert!(rt; shows(Reply::Bad, b"7 bad\n"));
-    assert!(rt; shows(Reply::Overlap, b"7 overlap\n"));
+    for (reply, want) in [
+        (Reply::Done, b"7 ok\n".as_slice()),
+        (Reply::Range, b"7 range\n"),
+        (Reply::Fault, b"7 fault\n"),
+        (Reply::NoMemory, b"7 nomem\n"),
+        (Reply::NoPolicy, b"7 nopolicy\n"),
+        (Reply::Bad, b"7 bad\n"),
+        (Reply::Overlap, b"7 overlap\n"),
+    ] {
+        assert!(rt; shows(reply, want), "{want:?}");
+    }
 }
+
+const DAMAGE: Damage = Damage {
+    page: 5,
+    entry: 170,
+};
+
+const STAT: Stat = Stat {
+    live: 2,
+    waste: 1,
+    postponed: 0,
+    dirty: 4,
+};
+
+const SCAN: ScanReport = ScanReport {
+    freed: 1,
+    lowered: 0,
+    printed: 3,
+};
 
 #[test]
 fn replies_with_numbers(rt: HostRuntime) {
-    let stat = Stat {
-        live: 2,
-        waste: 1,
-        postponed: 0,
-        dirty: 4,
-    };
-    let scan = ScanReport {
-        freed: 1,
-        lowered: 0,
-        printed: 3,
-    };
-    let damage = Damage {
-        page: 5,
-        entry: 170,
-    };
-    assert!(rt; shows(Reply::Damaged(damage), b"7 damaged 5 170\n"));
-    assert!(rt; shows(Reply::Full { live: 1, waste: 0 }, b"7 full 1 0\n"));
-    assert!(rt;
-        shows(
-            Reply::Stat(stat),
-            b"7 stat live=2 waste=1 postponed=0 dirty=4\n"
-        )
-    );
-    assert!(rt; shows(Reply::Scan(scan), b"7 scan freed=1 lowered=0 printed=3\n"));
+    for (reply, want) in [
+        (Reply::Damaged(DAMAGE), b"7 damaged 5 170\n".as_slice()),
+        (Reply::Full { live: 1, waste: 0 }, b"7 full 1 0\n"),
+        (
+            Reply::Stat(STAT),
+            b"7 stat live=2 waste=1 postponed=0 dirty=4\n",
+        ),
+        (Reply::Scan(SCAN), b"7 scan freed=1 lowered=0 printed=3\n"),
+    ] {
+        assert!(rt; shows(reply, want), "{want:?}");
+    }
 }
 
 #[test]
 fn replies_of_a_copy_that_stopped(rt: HostRuntime) {
-    let damage = Damage {
-        page: 5,
-        entry: 170,
-    };
-    assert!(rt;
-        shows(
-            Reply::Stopped {
-                done: 0,
-                why: Halt::Fault
-            },
-            b"7 stopped 0 fault\n"
-        )
-    );
-    assert!(rt;
-        shows(
-            Reply::Stopped {
-                done: 1,
-                why: Halt::Damaged(damage)
-            },
-            b"7 stopped 1 damaged 5 170\n"
-        )
-    );
-    assert!(rt;
-        shows(
-            Reply::Stopped {
-                done: 2,
-                why: Halt::Full { live: 4, waste: 3 }
-            },
-            b"7 stopped 2 full 4 3\n"
-        )
-    );
-    assert!(rt;
-        shows(
-            Reply::Stopped {
-                done: 3,
-                why: Halt::NoMemory
-            },
-            b"7 stopped 3 nomem\n"
-        )
-    );
+    for (done, why, want) in [
+        (0, Halt::Fault, b"7 stopped 0 fault\n".as_slice()),
+        (1, Halt::Damaged(DAMAGE), b"7 stopped 1 damaged 5 170\n"),
+        (
+            2,
+            Halt::Full { live: 4, waste: 3 },
+            b"7 stopped 2 full 4 3\n",
+        ),
+        (3, Halt::NoMemory, b"7 stopped 3 nomem\n"),
+    ] {
+        assert!(rt; shows(Reply::Stopped { done, why }, want), "{done}");
+    }
 }
 
 #[test]
 fn replies_with_contents(rt: HostRuntime) {
-    assert!(rt; shows(Reply::Bytes(Page::zero()), b"7 data -\n"));
-    assert!(rt;
-        shows(
-            Reply::Bytes(Page::numbered(5)),
-            b"7 data 0000000000000005\n"
-        )
-    );
-    assert!(rt; shows(Reply::Bytes(Page::numbered(171 << 56)), b"7 data ab\n"));
+    for (page, want) in [
+        (Page::zero(), b"7 data -\n".as_slice()),
+        (Page::numbered(5), b"7 data 0000000000000005\n"),
+        (Page::numbered(171 << 56), b"7 data ab\n"),
+    ] {
+        assert!(rt; shows(Reply::Bytes(page), want), "{want:?}");
+    }
 }
 
 #[test]

@@ -1,4 +1,5 @@
-use crate::{EXAMPLE, Job, MANUAL, USAGE, WordsError, words};
+// Which words are a job.
+use cli_words::{EXAMPLE, Job, MANUAL, USAGE, WordsError, words};
 use std::alloc::{AllocError, Global};
 use std::test::Fail;
 

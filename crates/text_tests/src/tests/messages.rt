@@ -1,5 +1,5 @@
 // Whole exchanges, message by message.
-use crate::{
+use nbd_wire::{
     BadMagic, ErrorNumber, FUA, OptionHead, OptionKind, OptionReply, Request, RequestKind,
     export_bytes, greeting_bytes, info_bytes, option_reply_head, read_option, read_request,
     reply_bytes, request_bytes,
