@@ -15,3 +15,5 @@ pub mod Quiet
 pub mod Room
 pub mod Fetching
 pub mod Weaker
+pub mod Owed
+pub mod Orderly
