@@ -24,6 +24,8 @@ pub mod Grown
 pub mod AppliedStands
 pub mod Alike
 pub mod Reserved
+pub mod QueueParts
+pub mod TakenOut
 pub mod Owing
 pub mod Looks
 pub mod OrderMarks

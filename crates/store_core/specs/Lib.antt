@@ -17,3 +17,5 @@ pub mod Fetching
 pub mod Weaker
 pub mod Owed
 pub mod Orderly
+pub mod Passing
+pub mod PassParts

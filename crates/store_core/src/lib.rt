@@ -17,6 +17,7 @@ mod ledger;
 mod marking;
 mod naming;
 mod orderly;
+mod passing;
 mod placing;
 mod printing;
 mod provided;
