@@ -28,3 +28,4 @@ pub mod Owing
 pub mod Looks
 pub mod OrderMarks
 pub mod OrderlySteps
+pub mod OrderlyEdits
