@@ -30,3 +30,4 @@ pub mod Owing
 pub mod Looks
 pub mod OrderMarks
 pub mod OrderlySteps
+pub mod OrderlyEdits
