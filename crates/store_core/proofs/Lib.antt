@@ -22,5 +22,8 @@ pub mod FreePages
 pub mod GivenUp
 pub mod Grown
 pub mod AppliedStands
+pub mod Moved
 pub mod Alike
+pub mod AppliedLaws
+pub mod Released
 pub mod Reserved

@@ -13,7 +13,7 @@ impl Core {
     ghost use Rattle.engine_model.specs.SmallPass.{map_edge};
     ghost use Rattle.engine_model.specs.SmallSteps.{given_up, ordered};
     ghost use Rattle.release_queue.specs.declared.Release.{Release};
-    ghost use Rattle.store_core.specs.Applied.{AppliesRelease, CanApply, ClearsPrint, GrowsInto, LosesContent, LowersRelease, MapOrdered, Takes, count_of_release, has_print_of, is_last_print, is_print_unborn};
+    ghost use Rattle.store_core.specs.Applied.{AppliesRelease, CanApply, ClearsPrint, GrowsInto, LosesContent, LowersRelease, MapOrdered, Takes, count_of_release, has_print_of, is_last_print, is_loose, is_print_unborn};
     ghost use Rattle.store_core.specs.Edits.{Makes};
     ghost use Rattle.store_core.specs.Frames.{KeepsStands, OnlyEngine};
     ghost use Rattle.store_core.specs.Moments.{AppliesByLaws, ClearsByLaws, GivesUpByLaws, LeavesByLaws, LowersByLaws};
@@ -75,6 +75,7 @@ impl Core {
     // The print of a page that has one, and of which the last count is about to go, is taken away.
     fn clear_print(&mut self, release: Release)
         requires placed { IsPlaced self.old.shape release }
+        requires count_held { 0 < holds_in self.old.engine.cache release.count_at }
         requires held { 0 < holds_in self.old.engine.cache release.print_at }
         requires node { is_node self.old.engine.graph release.print_at ≡ false → 0 < self.old.engine.graph.spare_nodes }
         requires room { is_node self.old.engine.graph release.print_at ≡ false → node_count self.old.engine.graph < self.old.engine.room }
@@ -132,7 +133,19 @@ impl Core {
         self.lower_count(i, release);
     }
 
-    // The content of a data page with count 0 is given up, where it is dirty, waits for no other page and is held by nobody.
+    // Whether the content of a data page may be given up: it is dirty and waits for no other page, and nobody holds it.
+    fn is_loose(&self, release: Release) -> bool
+        requires placed { IsPlaced self.now.shape release }
+        ensures { result ≡ is_loose self.now release }
+    {
+        let at = self.shape.data_place(release.page);
+        if !self.engine.graph_seen().ready(at) {
+            return false;
+        }
+        self.engine.cache_seen().holds(at) == 0
+    }
+
+    // The content of a data page whose count is 0 is given up where it may be.
     fn lose_content(&mut self, release: Release)
         requires placed { IsPlaced self.old.shape release }
         requires held { 0 < holds_in self.old.engine.cache release.count_at }
@@ -140,9 +153,12 @@ impl Core {
         ensures laws { GivesUpByLaws release.page self.old self.new }
         ensures stands { KeepsStands self.old self.new }
     {
-        let at = self.shape.data_place(release.page);
-        let loose = self.engine.graph_seen().ready(at) && self.engine.cache_seen().holds(at) == 0;
-        if loose && self.count_of(release.page) == 0 {
+        let count = self.count_of(release.page);
+        if count != 0 {
+            return;
+        }
+        let loose = self.is_loose(release);
+        if loose {
             self.give_up(release.page);
         }
     }
