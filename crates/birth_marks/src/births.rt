@@ -6,7 +6,7 @@ ghost use Rattle.birth_marks.specs.contracts.births.PairPartialEq.TheImpl.{eq-va
 ghost use Rattle.order_model.specs.Calls.{same_slot};
 ghost use Rattle.birth_marks.specs.Pages.{is_known, mark_of, settled};
 ghost use Rattle.birth_marks.specs.Kept.{AreBehind, AreLinked, Gone, HeadsPage, Swept};
-ghost use Rattle.birth_marks.specs.Births.{Changed, FixedAll, KeepsRecorded, PlacedAt, Same, TriedAt, WrittenAt, first_of, is_after, is_tried, is_unborn_in, place_in, record_in, recorded_in, value_in};
+ghost use Rattle.birth_marks.specs.Births.{Changed, FixedAll, KeepsRecorded, PlacedAt, Same, SameBut, TriedAt, WrittenAt, first_of, is_after, is_tried, is_unborn_in, place_in, record_in, recorded_in, value_in};
 
 use crate::pages::Pages;
 use crate::{NoMemory, Slot};
@@ -231,12 +231,13 @@ impl Births {
 
     /// The cached value of the slot went from `from` to `to`. `at` is the device page on which the slot stands; of a recorded slot it
     /// is that of its last change. What the values of slots are then is said where `from` is what the last change of a recorded slot
-    /// left; where slots stand, and what the others have met, is said in any case. Takes one of the spare changes. Constant.
+    /// left; where slots stand is said in any case. Takes one of the spare changes. Constant.
     pub fn change(&mut self, slot: Slot, at: u32, from: u32, to: u32)
         requires spare { 0 < self.old.spare }
         requires place { recorded_in self.old slot ≡ true → place_in self.old slot ≡ at }
         ensures changed { (recorded_in self.old slot ≡ true → value_in self.old slot ≡ from) → Changed self.old self.new slot at from to }
         ensures placed { PlacedAt self.old self.new slot at }
+        ensures others { SameBut slot self.old self.new }
         ensures spare { self.new.spare ≡ self.old.spare - 1 }
     {
         let was = self.live(slot);
