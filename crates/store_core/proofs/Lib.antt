@@ -22,7 +22,10 @@ pub mod FreePages
 pub mod GivenUp
 pub mod Grown
 pub mod AppliedStands
+pub mod Moved
 pub mod Alike
+pub mod AppliedLaws
+pub mod Released
 pub mod Reserved
 pub mod Owing
 pub mod Looks
