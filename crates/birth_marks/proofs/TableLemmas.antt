@@ -256,13 +256,6 @@ module _ (b c : BirthsView) (slot : Slot) (at from to moment : ℕ) (is : AreBeh
     | inl on ↦ rw (e, on) (rw (left on) (live_met r.first m (eqb from v) (nat_le r.moment (mark_of b.pages r.page).tried_at) (is_after r.first (moment_in b slot from)) (eqb to v) (first r refl) (λ h. ap (is_after r.first) (sym (same (eqb-true from v h))))))
   ]
 
-  -- the other slots
-  live_there : (s : Slot) → same_slot slot s ≡ false → recorded_in c s ≡ recorded_in b s
-  live_there s e = live_same b.pages c.pages (λ p. rw (marks p)) (record_in b s) (record_in c s) (record_there s e)
-
-  met_there : (s : Slot) (v : ℕ) → same_slot slot s ≡ false → met_in c s v ≡ met_in b s v
-  met_there s v e = rw (live_there s e, meets_same b.pages c.pages (λ p. rw (marks p)) v (moment_in b s v) (moment_in c s v) (record_in b s) (record_in c s) (moment_there s v e) (record_there s e)) refl
-
   pub changed_is : (recorded_in b slot ≡ true → value_in b slot ≡ from) → Changed b c slot at from to
   changed_is left = record {
     recorded = λ s. elim (cases_Bool (same_slot slot s)) [
@@ -273,11 +266,14 @@ module _ (b c : BirthsView) (slot : Slot) (at from to moment : ℕ) (is : AreBeh
     value = λ s. elim (cases_Bool (same_slot slot s)) [ inl e ↦ ap left_in (record_here s e) ∙ rw e | inr e ↦ ap left_in (record_there s e) ∙ rw e ];
     met = λ s v. elim (cases_Bool (same_slot slot s)) [
       | inl e ↦ subst (λ t. met_in c t v ≡ ((same_slot slot t && (not (recorded_in b t) && eqb from v)) || met_in b t v)) (slot_is slot s e) (here v)
-      | inr e ↦ met_there s v e ∙ rw e
+      | inr e ↦ rw (live_there s e, meets_same b.pages c.pages (λ p. rw (marks p)) v (moment_in b s v) (moment_in c s v) (record_in b s) (record_in c s) (moment_there s v e) (record_there s e), e)
     ];
     written = λ p. ap (λ (m : Mark). m.written) (marks p) ∙ unwritten (eqb at p) (written_in b p);
   }
     where
+      live_there : (s : Slot) → same_slot slot s ≡ false → recorded_in c s ≡ recorded_in b s
+      live_there s e = live_same b.pages c.pages (λ p. rw (marks p)) (record_in b s) (record_in c s) (record_there s e)
+
       unwritten : (x w : Bool) → cond x false w ≡ (not x && w)
       unwritten true w = refl
       unwritten false w = refl
@@ -290,10 +286,9 @@ module _ (b c : BirthsView) (slot : Slot) (at from to moment : ℕ) (is : AreBeh
   placed_is = record {
     recorded = λ s. elim (cases_Bool (same_slot slot s)) [
       | inl e ↦ rw (record_here s e, now_live, e)
-      | inr e ↦ live_there s e ∙ rw e
+      | inr e ↦ live_same b.pages c.pages (λ p. rw (marks p)) (record_in b s) (record_in c s) (record_there s e) ∙ rw e
     ];
     place = λ s. elim (cases_Bool (same_slot slot s)) [ inl e ↦ ap page_in (record_here s e) ∙ rw e | inr e ↦ ap page_in (record_there s e) ∙ rw e ];
-    others = met_there;
   }
 
   pub others_same : SameBut slot b c

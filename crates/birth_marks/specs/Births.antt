@@ -89,11 +89,10 @@ pub record Same (old new : BirthsView) : Type 0 where
   pub met : (s : Slot) (v : ℕ) → met_in new s v ≡ met_in old s v
   pub written : (p : ℕ) → written_in new p ≡ written_in old p
 
--- A slot was changed, from whatever it had: where the slots stand. The other slots have met what they had met.
+-- a slot was changed, from whatever it had: where the slots stand
 pub record PlacedAt (old new : BirthsView) (slot : Slot) (at : ℕ) : Type 0 where
   pub recorded : (s : Slot) → recorded_in new s ≡ (same_slot slot s || recorded_in old s)
   pub place : (s : Slot) → place_in new s ≡ cond (same_slot slot s) at (place_in old s)
-  pub others : (s : Slot) (v : ℕ) → same_slot slot s ≡ false → met_in new s v ≡ met_in old s v
 
 -- a slot went from one value to another
 pub record Changed (old new : BirthsView) (slot : Slot) (at from to : ℕ) : Type 0 where

@@ -231,7 +231,7 @@ impl Births {
 
     /// The cached value of the slot went from `from` to `to`. `at` is the device page on which the slot stands; of a recorded slot it
     /// is that of its last change. What the values of slots are then is said where `from` is what the last change of a recorded slot
-    /// left; where slots stand, and what the others have met, is said in any case. Takes one of the spare changes. Constant.
+    /// left; where slots stand is said in any case. Takes one of the spare changes. Constant.
     pub fn change(&mut self, slot: Slot, at: u32, from: u32, to: u32)
         requires spare { 0 < self.old.spare }
         requires place { recorded_in self.old slot ≡ true → place_in self.old slot ≡ at }

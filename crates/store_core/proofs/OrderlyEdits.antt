@@ -10,10 +10,12 @@ use Rattle.page_layout.specs.Shape.{ShapeView, count_page, data_page, map_page, 
 use Rattle.page_layout.specs.Tables.{print_entry_of}
 use Rattle.page_layout.proofs.Laws.{data_page_table, print_place_once}
 use Rattle.page_cache.specs.View.{content_in, holds_in, is_there}
-use Rattle.order_model.specs.declared.Slot.TheVariants.{Print}
+use Rattle.order_model.specs.declared.Slot.{Slot}
+use Rattle.order_model.specs.declared.Slot.TheVariants.{Name, Print}
+use Rattle.order_model.specs.Calls.{same_slot}
 use Rattle.order_model.specs.Paths.{Closes}
 use Rattle.order_model.specs.World.{IsData}
-use Rattle.birth_marks.specs.Births.{BirthsView, PlacedAt, is_unborn_in}
+use Rattle.birth_marks.specs.Births.{BirthsView, SameBut, is_unborn_in}
 use Rattle.dep_graph.specs.Lists.{GraphLists, barred_in, dirty_in, entered, hung_in, live_in}
 use Rattle.dep_graph.proofs.CountLemmas.{holds_placed}
 use Rattle.ref_counts.specs.Counts.{count_in}
@@ -75,10 +77,8 @@ module _ (at : ℕ) (block : Block) (old new : Core) (only : OnlyPage at block o
       (last_still old new r count print (λ u. unborn ∙ u))
 
 -- another slot is born or not as before
-pub other_born : (old new : BirthsView) (p q at : ℕ) → PlacedAt old new (Print p) at → p ≢ q → is_unborn_in new (Print q) 1 ≡ is_unborn_in old (Print q) 1
-other_born old new p q at placed ne =
-    let off : eqb p q ≡ false = ne_eqb p q ne in
-    rw (placed.others (Print q) 1 off, placed.recorded (Print q)) (rw off refl)
+pub other_born : (old new : BirthsView) (slot s : Slot) (v : ℕ) → SameBut slot old new → same_slot slot s ≡ false → is_unborn_in new s v ≡ is_unborn_in old s v
+other_born old new slot s v same off = rw (same.met s v off, same.recorded s off) refl
 
 module _ (p : ℕ) (old new : Core) (first : 1 ≤ p) (last : p ≤ old.shape.pages) where
   abbrev K : ℕ
@@ -99,7 +99,7 @@ module _ (p : ℕ) (old new : Core) (first : 1 ≤ p) (last : p ≤ old.shape.pa
         looked = looked_on p old new (IsPlaced old.shape) old.whole.placed (ap (λ (l : Ledger). l.queue) k.ledger) (λ r placed ne. edit_on K k.page old new k.only r
             (entry_kept K k.page old new k.only (λ c. count_in c r.page) r.count_at (λ is. k.sets.others r.page placed.first ne (sym placed.count_at ∙ is)))
             (entry_kept K k.page old new k.only (λ c. is_some (print_entry_of c (print_place r.page))) r.print_at
-              (λ is. absurd ((apart_pages old.shape).count_print p r.page (first, last) (data_of r placed) (sym is ∙ placed.print_at))))
+            (λ is. absurd ((apart_pages old.shape).count_print p r.page (first, last) (data_of r placed) (sym is ∙ placed.print_at))))
             (ap (λ (l : Ledger). is_unborn_in l.births (Print r.page) 1) k.ledger)) o.looked;
         formed = formed_but K k.page old new k.only
             (sets_count old.shape (page_in old K) k.page p (count_in (page_in old K) p + 1) first last few (o.formed K (held_there old.engine.cache K held)) k.sets).formed o.formed;
@@ -111,10 +111,10 @@ module _ (p : ℕ) (old new : Core) (first : 1 ≤ p) (last : p ≤ old.shape.pa
     ordered = λ d. ordered_in d new old.shape k.only.shape (subst (IsOrdered (lay_of old.shape)) (sym (k.world d)) (put_order (lay_of old.shape) (world_of d old) (o.ordered d) F k.page));
     looked = looked_on p old new (IsPlaced old.shape) old.whole.placed (ap (λ (l : Ledger). l.queue) k.ledger) (λ r placed ne. edit_on F k.page old new k.only r
         (entry_kept F k.page old new k.only (λ c. count_in c r.page) r.count_at
-          (λ is. absurd ((apart_pages old.shape).count_print r.page p (data_of r placed) (first, last) (sym placed.count_at ∙ is))))
+        (λ is. absurd ((apart_pages old.shape).count_print r.page p (data_of r placed) (first, last) (sym placed.count_at ∙ is))))
         (entry_kept F k.page old new k.only (λ c. is_some (print_entry_of c (print_place r.page))) r.print_at
-          (λ is. ap is_some (k.sets.others (print_place r.page) (λ e. ne (print_place_once old.shape r.page p placed.first first (sym placed.print_at ∙ is) e)))))
-        (other_born old.ledger.births new.ledger.births p r.page F k.placed (λ e. ne (sym e)))) o.looked;
+        (λ is. ap is_some (k.sets.others (print_place r.page) (λ e. ne (print_place_once old.shape r.page p placed.first first (sym placed.print_at ∙ is) e)))))
+        (other_born old.ledger.births new.ledger.births (Print p) (Print r.page) 1 k.other_slots (ne_eqb p r.page (λ e. ne (sym e))))) o.looked;
     formed = formed_but F k.page old new k.only (sets_print old.shape (page_in old F) k.page p print first last (o.formed F (held_there old.engine.cache F held)) k.sets).formed o.formed;
   }
 
@@ -130,10 +130,10 @@ module _ (b block p : ℕ) (old new : Core) (lt : block < old.shape.blocks) (hel
   name_on : (r : Release) → IsPlaced old.shape r → HasToWait old r → HasToWait new r
   name_on r placed = edit_on M k.page old new k.only r
       (entry_kept M k.page old new k.only (λ c. count_in c r.page) r.count_at
-        (λ is. absurd ((apart_pages old.shape).map_count block r.page lt (placed.first, placed.last) (sym is ∙ placed.count_at))))
+      (λ is. absurd ((apart_pages old.shape).map_count block r.page lt (placed.first, placed.last) (sym is ∙ placed.count_at))))
       (entry_kept M k.page old new k.only (λ c. is_some (print_entry_of c (print_place r.page))) r.print_at
-        (λ is. absurd ((apart_pages old.shape).map_print block r.page lt (placed.first, placed.last) (sym is ∙ placed.print_at))))
-      (rw (k.placed.others (Print r.page) 1 refl, k.placed.recorded (Print r.page)) refl)
+      (λ is. absurd ((apart_pages old.shape).map_print block r.page lt (placed.first, placed.last) (sym is ∙ placed.print_at))))
+      (other_born old.ledger.births new.ledger.births (Name block) (Print r.page) 1 k.other_slots refl)
 
   still_looked : All (IsLookedBut b old) old.ledger.queue.releases → All (IsLookedBut b new) old.ledger.queue.releases
   still_looked looked = all_both (IsPlaced old.shape) (IsLookedBut b old) (IsLookedBut b new) (λ r placed was ne off. name_on r placed (was ne off)) old.ledger.queue.releases old.whole.placed looked
@@ -191,9 +191,9 @@ module _ (b p : ℕ) (old new : Core) (first : 1 ≤ p) (last : p ≤ old.shape.
     looked = looked_on b old new (HasPages (holds_in old.engine.cache)) (pages_held old.ledger.queue.releases (holds_in old.engine.cache) provided.holds_owed) (ap (λ (l : Ledger). l.queue) only.ledger)
         (λ r h ne. waits_on old new r (λ a. closes_more (live_in old.engine.graph) (live_in new.engine.graph) (λ x y l. ap (λ (g : GraphLists). live_in g x y) graph ∙ l) a r.count_at)
         (last_still old new r
-          (count_same old new r (ap (λ (c : Option Block). held_or c zero_block) (held r.count_at h.0)))
-          (print_same old new r (ap (λ (c : Option Block). held_or c zero_block) (held r.print_at h.1)))
-          (same_born r))) o.looked;
+        (count_same old new r (ap (λ (c : Option Block). held_or c zero_block) (held r.count_at h.0)))
+        (print_same old new r (ap (λ (c : Option Block). held_or c zero_block) (held r.print_at h.1)))
+        (same_born r))) o.looked;
     formed = formed_came D old new only.shape (data_formed old.shape p (page_in new D)) came o.formed;
   }
 

@@ -138,7 +138,7 @@ pub applied_left : (i : ℕ) (r : Release) (old new : Core) → IsProvided old �
 applied_left i r old new p at x q =
     let same = ap (λ (l : QueueLists). held_for_all l.releases q) x.queue in
     let less = held_removed old.ledger.queue.releases i r q at in
-    let was = p.holds_owed q in let now = x.same.holds q in
+    let was = p.holds_owed q in let now = x.holds q in
     omega (arith, same, less, was, now)
 
 pub applied_provided : (i : ℕ) (r : Release) (old new : Core) → IsProvided old → slice_get old.ledger.queue.releases i ≡ Some r → AppliesRelease i r old new → IsProvided new
