@@ -26,4 +26,5 @@ pub mod Moved
 pub mod Alike
 pub mod AppliedLaws
 pub mod Released
+pub mod MomentStands
 pub mod Reserved
