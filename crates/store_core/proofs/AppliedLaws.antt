@@ -77,7 +77,7 @@ none_cleared core r placed held none d m is = (
 
 -- a print goes, in its steps
 module _ (a c n : Core) (r : Release) (placed : IsPlaced a.shape r) (shape : c.shape ≡ a.shape) (ledger : c.ledger ≡ a.ledger) (held_count : 0 < holds_in a.engine.cache r.count_at) (held : 0 < holds_in a.engine.cache r.print_at)
-    (there : is_there c.engine.cache r.print_at ≡ true) (one : count_of_release a r ≡ 1) (had : has_print_of a r ≡ true) (world : Makes (λ w. cond (is_print_unborn a r) (touched r.print_at w) (ordered r.print_at r.count_at (touched r.print_at w))) a c) (printed : PrintsPage r.page None c n) where
+    (there : is_there c.engine.cache r.print_at ≡ true) (dirty : dirty_in c.engine.graph r.print_at ≡ true) (one : count_of_release a r ≡ 1) (had : has_print_of a r ≡ true) (world : Makes (λ w. cond (is_print_unborn a r) (touched r.print_at w) (ordered r.print_at r.count_at (touched r.print_at w))) a c) (printed : PrintsPage r.page None c n) where
   -- from whichever moment the core is then
   abbrev Goes : ShapeView → (d : Meaning) → Moment → Type 0
   Goes x d m = (k : Moment) × IsMomentOf d n k × (k.array ≡ m.array) × ((page : Block) × SetsPrint (lay_of x) (m.world.cached (print_page x r.page)) page r.page None × (k ≡ with_print (lay_of x) r.page page 1 0 m))
@@ -87,9 +87,10 @@ module _ (a c n : Core) (r : Release) (placed : IsPlaced a.shape r) (shape : c.s
       let first = placed.first in
       let last : r.page ≤ c.shape.pages = subst (λ (x : ShapeView). r.page ≤ x.pages) (sym shape) placed.last in
       let here : is_there c.engine.cache (print_page c.shape r.page) ≡ true = subst (λ (x : ShapeView). is_there c.engine.cache (print_page x r.page) ≡ true) (sym shape) (subst (λ (k : ℕ). is_there c.engine.cache k ≡ true) placed.print_at there) in
+      let marked_at : dirty_in c.engine.graph (print_page c.shape r.page) ≡ true = subst (λ (x : ShapeView). dirty_in c.engine.graph (print_page x r.page) ≡ true) (sym shape) (subst (λ (k : ℕ). dirty_in c.engine.graph k ≡ true) placed.print_at dirty) in
       let at : cached_print (lay_of c.shape) m.world r.page ≡ Some print = subst (λ (x : ShapeView). cached_print (lay_of x) m.world r.page ≡ Some print) (sym shape) some in
       subst (λ (x : ShapeView). Goes x d m) shape
-      (gone d c n m is r.page first last here printed print at, is_gone d c n m is r.page first last here printed print at, refl, (printed.page, sets_none d c n m is r.page first last here printed print at, refl))
+      (gone d c n m is r.page first last here marked_at printed print at, is_gone d c n m is r.page first last here marked_at printed print at, refl, (printed.page, sets_none d c n m is r.page first last here marked_at printed print at, refl))
 
   world_of_print : (d : Meaning) (m : Moment) → IsMomentOf d a m → (u : Bool) → is_print_unborn a r ≡ u
       → world_of d c ≡ cond u (touched (print_page a.shape r.page) m.world) (ordered (print_page a.shape r.page) (count_page a.shape r.page) (touched (print_page a.shape r.page) m.world))
@@ -129,7 +130,7 @@ module _ (a b c e n : Core) (i : ℕ) (r : Release) (can : CanApply i r a) (plac
   module _ (touches : Makes (touched r.count_at) a b) (dirty : (q : ℕ) → dirty_in a.engine.graph q ≡ true → dirty_in b.engine.graph q ≡ true) (hung : (q : ℕ) → hung_in b.engine.graph q ≡ hung_in a.engine.graph q)
       (orders : (r.stage ≡ 0 → dirty_in b.engine.graph r.map_at ≡ true) → (r.stage ≡ 1 → hung_in b.engine.graph r.map_at ≡ true) → Makes (map_edge r.stage r.map_at r.count_at) b c)
       (shape_c : c.shape ≡ a.shape) (ledger_c : c.ledger ≡ a.ledger) (shape_e : e.shape ≡ a.shape) (queue_e : e.ledger.queue ≡ a.ledger.queue)
-      (held_e : 0 < holds_in e.engine.cache r.count_at) (count_e : count_of_release e r ≡ count_of_release a r) (clears : ClearsByLaws r.page c e) (low : LowersCount i r e n) where
+      (held_e : 0 < holds_in e.engine.cache r.count_at) (dirty_e : dirty_in e.engine.graph r.count_at ≡ true) (count_e : count_of_release e r ≡ count_of_release a r) (clears : ClearsByLaws r.page c e) (low : LowersCount i r e n) where
     staged_dirty : (d : Meaning) (m : Moment) → IsMomentOf d a m → r.stage ≡ 0 → dirty_in b.engine.graph r.map_at ≡ true
     staged_dirty d m is z =
         let q : Queued m.world.queue r.block r.page 0 = subst (λ (w : World). Queued w.queue r.block r.page 0) is.world (queued_at a.ledger.queue.releases i r 0 can.queued z) in
@@ -172,11 +173,11 @@ module _ (a b c e n : Core) (i : ℕ) (r : Release) (can : CanApply i r a) (plac
         let queued : slice_get e.ledger.queue.releases i ≡ Some r = subst (λ (q : QueueLists). slice_get q.releases i ≡ Some r) (sym queue_e) can.queued in
         subst (λ (x : ShapeView). Lowered x d k) shape_e (record {
           page = low.page;
-          pool = pool_left d e n k is i r queued there held_e low;
-          sets = sets_left d e n k is i r queued there held_e low;
-          left = count_left d e n k is i r queued there held_e low;
-          told = told_left d e n k is i r queued there held_e low;
-          is = is_out d e n k is i r queued there held_e low;
+          pool = pool_left d e n k is i r queued there held_e dirty_e low;
+          sets = sets_left d e n k is i r queued there held_e dirty_e low;
+          left = count_left d e n k is i r queued there held_e dirty_e low;
+          told = told_left d e n k is i r queued there held_e dirty_e low;
+          is = is_out d e n k is i r queued there held_e dirty_e low;
         })
 
     cleared_at : (d : Meaning) (m : Moment) → IsMomentOf d c m → (k : Moment) × IsMomentOf d e k × (k.array ≡ m.array) × ((count : ℕ) → count + 1 ≡ cached_count lay_a m.world r.page → Clears lay_a r.page count m k)
@@ -254,7 +255,8 @@ leaves_queue old new i r queued placed held none shape engine ledger d m is =
           (λ s slot rec. ap (λ (l : Ledger). value_in l.births s) ledger ∙ is.values s slot (sym (ap (λ (l : Ledger). recorded_in l.births s) ledger) ∙ rec))
           (λ p kind. ap (λ (l : Ledger). told_of l.pool p) ledger ∙ is.pool p kind)
           is.formed
-          (staged_out (lay_of old.shape) m.world w before after (plain_release r) was refl (λ a. refl) (λ a. refl) is.staged),
+          (staged_out (lay_of old.shape) m.world w before after (plain_release r) was refl (λ a. refl) (λ a. refl) is.staged)
+          is.clean,
       refl,
       record { no_count = ap (λ (x : World). cached_count (lay_of old.shape) x r.page) (sym is.world) ∙ count_cached d old r placed held ∙ none; is = refl },
     )

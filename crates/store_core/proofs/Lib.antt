@@ -26,6 +26,7 @@ pub mod Moved
 pub mod Alike
 pub mod AppliedLaws
 pub mod Released
+pub mod MomentStands
 pub mod Reserved
 pub mod QueueParts
 pub mod TakenOut

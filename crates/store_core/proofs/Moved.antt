@@ -52,42 +52,49 @@ use Rattle.store_core.proofs.Queued.{split_at}
 pub moment_of_parts : (d : Meaning) (old new : Core) → new.shape ≡ old.shape → (n : Moment) → world_of d new ≡ n.world → Remembers (place_of old.shape) new.ledger.births n.calls
     → ((s : Slot) → IsSlot (lay_of old.shape) s → recorded_in new.ledger.births s ≡ true → marks.value_in new.ledger.births s ≡ cached_value (lay_of old.shape) n.world s)
     → ((p : ℕ) → IsData (lay_of old.shape) p → told_of new.ledger.pool p ≡ n.pool p) → ((page : ℕ) → IsTable (lay_of old.shape) page → is_formed old.shape page (n.world.cached page) ≡ true)
-    → AreStaged (lay_of old.shape) n.world → IsMomentOf d new n
-moment_of_parts d old new shape n world remembers values pool formed staged = record {
+    → AreStaged (lay_of old.shape) n.world → ((a : ℕ) → n.world.dirty a ≡ false → n.world.cached a ≡ n.world.newest a) → IsMomentOf d new n
+moment_of_parts d old new shape n world remembers values pool formed staged clean = record {
   world = world;
   births = subst (λ (x : ShapeView). Remembers (place_of x) new.ledger.births n.calls) (sym shape) remembers;
   values = subst (λ (x : ShapeView). (s : Slot) → IsSlot (lay_of x) s → recorded_in new.ledger.births s ≡ true → marks.value_in new.ledger.births s ≡ cached_value (lay_of x) n.world s) (sym shape) values;
   pool = subst (λ (x : ShapeView). (p : ℕ) → IsData (lay_of x) p → told_of new.ledger.pool p ≡ n.pool p) (sym shape) pool;
   formed = subst (λ (x : ShapeView). (page : ℕ) → IsTable (lay_of x) page → is_formed x page (n.world.cached page) ≡ true) (sym shape) formed;
   staged = subst (λ (x : ShapeView). AreStaged (lay_of x) n.world) (sym shape) staged;
+  clean = clean;
 }
+
+pub off_before : (x y : Bool) → (x ≡ true → y ≡ true) → y ≡ false → x ≡ false
+off_before true y f e = sym (f refl) ∙ e
+off_before false y f e = refl
 
 -- contents and queue are the same, and what is marked is marked still
 pub record Marks (w v : World) : Type 0 where
+  pub newest : (a : ℕ) → v.newest a ≡ w.newest a
   pub cached : (a : ℕ) → v.cached a ≡ w.cached a
   pub queue : v.queue ≡ w.queue
   pub dirty : (a : ℕ) → w.dirty a ≡ true → v.dirty a ≡ true
   pub hung : (a : ℕ) → w.hung a ≡ true → v.hung a ≡ true
 
 pub marks_none : (w : World) → Marks w w
-marks_none w = record { cached = λ a. refl; queue = refl; dirty = λ a h. h; hung = λ a h. h }
+marks_none w = record { newest = λ a. refl; cached = λ a. refl; queue = refl; dirty = λ a h. h; hung = λ a h. h }
 
 pub marks_touched : (page : ℕ) (w : World) → Marks w (touched page w)
-marks_touched page w = record { cached = λ a. refl; queue = refl; dirty = λ a h. or_left _ _ h; hung = λ a h. h }
+marks_touched page w = record { newest = λ a. refl; cached = λ a. refl; queue = refl; dirty = λ a h. or_left _ _ h; hung = λ a h. h }
 
 pub marks_ordered : (before after : ℕ) (w : World) → Marks w (ordered before after w)
-marks_ordered before after w = record { cached = λ a. refl; queue = refl; dirty = λ a h. h; hung = λ a h. h }
+marks_ordered before after w = record { newest = λ a. refl; cached = λ a. refl; queue = refl; dirty = λ a h. h; hung = λ a h. h }
 
 pub marks_edge : (stage before after : ℕ) (w : World) → Marks w (map_edge stage before after w)
 marks_edge stage before after w = by (eqb stage 0) (eqb stage 1)
   where
     by : (x y : Bool) → Marks w (cond x (ordered before after w) (cond y (ordered_by_barrier before after w) w))
     by true y = marks_ordered before after w
-    by false true = record { cached = λ a. refl; queue = refl; dirty = λ a h. h; hung = λ a h. h }
+    by false true = record { newest = λ a. refl; cached = λ a. refl; queue = refl; dirty = λ a h. h; hung = λ a h. h }
     by false false = marks_none w
 
 pub marks_then : (u v w : World) → Marks u v → Marks v w → Marks u w
 marks_then u v w f g = record {
+  newest = λ a. g.newest a ∙ f.newest a;
   cached = λ a. g.cached a ∙ f.cached a;
   queue = g.queue ∙ f.queue;
   dirty = λ a h. g.dirty a (f.dirty a h);
@@ -108,6 +115,7 @@ marked d old new m is shape ledger w world more = moment_of_parts d old new shap
       dirty = λ l p lt q. more.dirty (map_page l) (is.staged.dirty l p lt (subst (λ (rs : List plain.Release). Queued rs l p 0) more.queue q));
       hung = λ l p lt q. more.hung (map_page l) (is.staged.hung l p lt (subst (λ (rs : List plain.Release). Queued rs l p 1) more.queue q));
     })
+    (λ a off. more.cached a ∙ is.clean a (off_before (m.world.dirty a) (w.dirty a) (more.dirty a) off) ∙ sym (more.newest a))
 
 -- the edge from the map page, as the stage asks for it
 pub edge_live : (old new : Core) (r : Release) → r.stage ≡ 0 → Makes (ordered_after r.map_at r.count_at) old new → (r.stage ≡ 0 → dirty_in old.engine.graph r.map_at ≡ true) → Makes (map_edge r.stage r.map_at r.count_at) old new
@@ -180,6 +188,9 @@ put_formed shape page c w formed a was = elim (cases_eq a page) [
   | inr ne ↦ ap (is_formed shape a) (put_other page c w a ne) ∙ was
 ]
 
+put_clean : (page : ℕ) (c : Block) (w : World) → w.dirty page ≡ true → ((a : ℕ) → w.dirty a ≡ false → w.cached a ≡ w.newest a) → (a : ℕ) → w.dirty a ≡ false → (put page c w).cached a ≡ w.newest a
+put_clean page c w dirty clean a off = put_other page c w a (λ is. true≢false (sym dirty ∙ ap w.dirty (sym is) ∙ off)) ∙ clean a off
+
 queued_out : (xs ys : List plain.Release) (r : plain.Release) (l p stage : ℕ) → Queued (xs ++ ys) l p stage → Queued (xs ++ r ∷ ys) l p stage
 queued_out [] ys r l p stage q = inr q
 queued_out (x ∷ xs) ys r l p stage (inl h) = inl h
@@ -201,7 +212,7 @@ few_counts shape p c first last formed = ((formed_count shape ((p - 1) / 1024) c
 
 -- a count is lowered, and its release leaves the queue
 module _ (d : Meaning) (old new : Core) (m : Moment) (is : IsMomentOf d old m) (i : ℕ) (r : Release) (queued : slice_get old.ledger.queue.releases i ≡ Some r) (placed : IsPlaced old.shape r)
-    (held : 0 < holds_in old.engine.cache r.count_at) (low : LowersCount i r old new) where
+    (held : 0 < holds_in old.engine.cache r.count_at) (dirty : dirty_in old.engine.graph r.count_at ≡ true) (low : LowersCount i r old new) where
   abbrev at : ℕ
   at = count_page old.shape r.page
 
@@ -225,6 +236,9 @@ module _ (d : Meaning) (old new : Core) (m : Moment) (is : IsMomentOf d old m) (
 
   cached_at : m.world.cached at ≡ page_in old r.count_at
   cached_at = ap (λ (w : World). w.cached at) (sym is.world) ∙ cached_held old r.count_at at placed.count_at held d
+
+  dirty_at : m.world.dirty at ≡ true
+  dirty_at = ap (λ (w : World). w.dirty at) (sym is.world) ∙ subst (λ (k : ℕ). dirty_in old.engine.graph k ≡ true) placed.count_at dirty
 
   formed_at : is_formed old.shape at (page_in old r.count_at) ≡ true
   formed_at = ap (is_formed old.shape at) (sym cached_at) ∙ is.formed at (inr (r.page, is_data, inl refl))
@@ -267,9 +281,10 @@ module _ (d : Meaning) (old new : Core) (m : Moment) (is : IsMomentOf d old m) (
       pool_is
       (λ page kind. put_formed old.shape at low.page m.world sets_left.formed page (is.formed page kind))
       (staged_out (lay_of old.shape) m.world out.world before after (plain_release r) queue_was refl (λ a. refl) (λ a. refl) is.staged)
+      (put_clean at low.page m.world dirty_at is.clean)
 
 -- a print goes
-module _ (d : Meaning) (old new : Core) (m : Moment) (is : IsMomentOf d old m) (p : ℕ) (first : 1 ≤ p) (last : p ≤ old.shape.pages) (there : is_there old.engine.cache (print_page old.shape p) ≡ true) (printed : PrintsPage p None old new)
+module _ (d : Meaning) (old new : Core) (m : Moment) (is : IsMomentOf d old m) (p : ℕ) (first : 1 ≤ p) (last : p ≤ old.shape.pages) (there : is_there old.engine.cache (print_page old.shape p) ≡ true) (dirty : dirty_in old.engine.graph (print_page old.shape p) ≡ true) (printed : PrintsPage p None old new)
     (print : List ℕ) (had : cached_print (lay_of old.shape) m.world p ≡ Some print) where
   abbrev print_at : ℕ
   print_at = print_page old.shape p
@@ -314,6 +329,7 @@ module _ (d : Meaning) (old new : Core) (m : Moment) (is : IsMomentOf d old m) (
       (λ q kind. ap (λ (l : Ledger). told_of l.pool q) printed.ledger ∙ is.pool q kind)
       (λ page kind. put_formed old.shape print_at printed.page m.world sets_none.formed page (is.formed page kind))
       (record { dirty = λ l q lt k. is.staged.dirty l q lt k; hung = λ l q lt k. is.staged.hung l q lt k })
+      (put_clean print_at printed.page m.world (ap (λ (w : World). w.dirty print_at) (sym is.world) ∙ dirty) is.clean)
 
 -- a data page is given up
 pub is_given : (d : Meaning) (old new : Core) (m : Moment) → IsMomentOf d old m → (p : ℕ) → IsData (lay_of old.shape) p → new.shape ≡ old.shape → new.ledger ≡ old.ledger → Makes (given_up (data_page old.shape p)) old new
@@ -332,3 +348,7 @@ is_given d old new m is p kind shape ledger makes =
       dirty = λ l q lt queued. and_from _ _ (is.staged.dirty l q lt queued) (ap not (ne_eqb (map_page l) at (apart.table_data (map_page l) p (inl (l, lt, refl)) kind)));
       hung = λ l q lt queued. is.staged.hung l q lt queued;
     })
+    (λ a off. elim (cases_eq a at) [
+      | inl e ↦ ap (λ (b : Bool). cond b (m.world.newest at) (m.world.cached a)) (eq-eqb a at e) ∙ ap m.world.newest (sym e)
+      | inr ne ↦ ap (λ (b : Bool). cond b (m.world.newest at) (m.world.cached a)) (ne_eqb a at ne) ∙ is.clean a (off_before (m.world.dirty a) (m.world.dirty a && not (eqb a at)) (λ h. and_from _ _ h (ap not (ne_eqb a at ne))) off)
+    ])

@@ -26,6 +26,7 @@ use Rattle.store_core.specs.Views.{held_or, page_in}
 use Rattle.store_core.specs.Whole.{IsPlaced}
 use Rattle.store_core.proofs.AppliedStands.{count_table, never_both, print_table}
 use Rattle.store_core.proofs.Clean.{apart_pages}
+use Rattle.store_core.proofs.Moved.{off_before}
 use Rattle.store_core.proofs.Grown.{takes_none, takes_then}
 
 -- no page is lost
@@ -177,8 +178,8 @@ module _ (a b n : Core) (i : ℕ) (r : Release) (can : CanApply i r a) (placed :
           live = λ x y kept h. last.grows.live x y (lost_same x ∙ kept) (low.grows.live x y h);
           none_from = λ x y gone. last.grows.none_from x y (lost_same x ∙ gone);
           none_to = λ x y gone. let none = last.grows.none_to x y (lost_same y ∙ gone) in (
-            false_before (live_in a.engine.graph x y) (live_in b.engine.graph x y) (low.grows.live x y) none.0,
-            false_before (barred_in a.engine.graph x y) (barred_in b.engine.graph x y) (low.grows.barred x y) none.1,
+            off_before (live_in a.engine.graph x y) (live_in b.engine.graph x y) (low.grows.live x y) none.0,
+            off_before (barred_in a.engine.graph x y) (barred_in b.engine.graph x y) (low.grows.barred x y) none.1,
           );
           barred = λ x y h. last.grows.barred x y (low.grows.barred x y h);
           into = λ x y h. elim (last.grows.into x y h) [ inl was ↦ low.grows.into x y was | inr at ↦ inr at ];
@@ -195,7 +196,3 @@ module _ (a b n : Core) (i : ℕ) (r : Release) (can : CanApply i r a) (placed :
             ∙ ap (λ (x : ShapeView). cond (eqb (count_of_release a r - 1) 0 && is_loose a r) (left_out (data_page x r.page) b.engine.tallies) b.engine.tallies) low.shape
             ∙ ap (λ (t : List Tally). cond (eqb (count_of_release a r - 1) 0 && is_loose a r) (left_out data_at t) t) low.tallies;
       }
-    where
-      false_before : (x y : Bool) → (x ≡ true → y ≡ true) → y ≡ false → x ≡ false
-      false_before true y f e = sym (f refl) ∙ e
-      false_before false y f e = refl

@@ -1,5 +1,5 @@
 -- The plain moments that a core over a device is, and the steps between them.
-use Rattle.std.specs.Prelude.{◌≡◌, ◌+◌, ◌<◌, ℕ, suc, List, map, take, drop, true}
+use Rattle.std.specs.Prelude.{◌≡◌, ◌+◌, ◌<◌, ℕ, suc, List, map, take, drop, false, true}
 use Rattle.page_device.specs.Meaning.{Meaning}
 use Rattle.page_layout.specs.Formed.{is_formed}
 use Rattle.order_model.specs.declared.Slot.{Slot}
@@ -21,7 +21,7 @@ pub record AreStaged (lay : Layout) (w : World) : Type 0 where
   pub dirty : (l p : ℕ) → l < lay.blocks → Queued w.queue l p 0 → w.dirty (lay.map_page l) ≡ true
   pub hung : (l p : ℕ) → l < lay.blocks → Queued w.queue l p 1 → w.hung (lay.map_page l) ≡ true
 
--- The core is the state of the moment. Births remember its calls and know what the slots have, and the pool was told what it was told. Each cached table page is well formed, and the map pages of releases are marked as their stages say.
+-- The core is the state of the moment. Births remember its calls and know what the slots have, and the pool was told what it was told. Each cached table page is well formed, the map pages of releases are marked as their stages say, and a page that is not dirty is cached as the device has it.
 pub record IsMomentOf (d : Meaning) (core : Core) (m : Moment) : Type 0 where
   pub world : world_of d core ≡ m.world
   pub births : Remembers (place_of core.shape) core.ledger.births m.calls
@@ -29,6 +29,11 @@ pub record IsMomentOf (d : Meaning) (core : Core) (m : Moment) : Type 0 where
   pub pool : (p : ℕ) → IsData (lay_of core.shape) p → told_of core.ledger.pool p ≡ m.pool p
   pub formed : (page : ℕ) → IsTable (lay_of core.shape) page → is_formed core.shape page (m.world.cached page) ≡ true
   pub staged : AreStaged (lay_of core.shape) m.world
+  pub clean : (a : ℕ) → m.world.dirty a ≡ false → m.world.cached a ≡ m.world.newest a
+
+-- over each device: whichever moment the old core is, the new one is too
+abbrev pub KeepsMoments : Core → Core → Type 0
+KeepsMoments old new = (d : Meaning) (m : Moment) → IsMomentOf d old m → IsMomentOf d new m
 
 -- over each device: from each moment that the old core is, such a step leads to one that the new core is, and the array stays
 abbrev pub Moves : (Moment → Moment → Type 0) → Core → Core → Type 0

@@ -27,7 +27,7 @@ mod waves;
 
 pub use blocking::blocked_alike;
 use flush_engine::Engine;
-pub use laws::{image_is_good, images_are_fit, settled, weaker};
+pub use laws::{image_is_good, images_are_fit, moments_stand, moves_stand, settled, weaker};
 pub use ledger::Ledger;
 pub use orderly::{
     but_for_none, data_is_orderly, entries_are_orderly, marks_are_orderly, quiet_is_orderly,

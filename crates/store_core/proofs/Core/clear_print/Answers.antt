@@ -80,4 +80,4 @@ returns-clause-laws c =
     let is = ap (λ (k : CacheView). holds_in k r.print_at) o.cache ∙ t.same.holds r.print_at in
     let some = c.requires.held in
     print_cleared core c.order_print.new.self c.set_print.new.self r c.requires.placed (o.rest.shape ∙ t.rest.shape) (o.rest.ledger ∙ t.rest.ledger) c.requires.count_held some
-    (held_there c.order_print.new.self.engine.cache r.print_at (omega (arith, is, some))) c.requires.one c.requires.had (print_ordered core c.touch.new.self c.order_print.new.self r t.world t.rest.ledger o.world) c.set_print.ensures.printed
+    (held_there c.order_print.new.self.engine.cache r.print_at (omega (arith, is, some))) (o.grows.dirty r.print_at (t.dirty r.print_at ∙ or_right _ _ (eq-eqb r.print_at r.print_at refl))) c.requires.one c.requires.had (print_ordered core c.touch.new.self c.order_print.new.self r t.world t.rest.ledger o.world) c.set_print.ensures.printed

@@ -103,4 +103,4 @@ returns-clause-laws c =
     release_lowered core c.touch.new.self c.order_release.new.self e c.lower_count.new.self c.args.i r c.requires placed t.world
     (λ q h. t.dirty q ∙ or_left _ _ h) (λ q. ap (λ (g : GraphLists). hung_in g q) t.graph) o.world
     (o.rest.shape ∙ t.rest.shape) (o.rest.ledger ∙ t.rest.ledger) (cleared.shape ∙ o.rest.shape ∙ t.rest.shape) (cleared.queue ∙ ap (λ (l : Ledger). l.queue) (o.rest.ledger ∙ t.rest.ledger))
-    held count c.clear_last_print.ensures.laws c.lower_count.ensures.lowered
+    held (cleared.grows.dirty r.count_at (o.grows.dirty r.count_at (count_dirty core c.touch.new.self c.args.i r c.requires t.graph))) count c.clear_last_print.ensures.laws c.lower_count.ensures.lowered
