@@ -63,6 +63,14 @@ moment_of_parts d old new shape n world remembers values pool formed staged clea
   clean = clean;
 }
 
+-- the same moment, where the plain state is the same
+pub moment_kept : (d : Meaning) (old new : Core) → new.shape ≡ old.shape → new.ledger.births ≡ old.ledger.births → new.ledger.pool ≡ old.ledger.pool → world_of d new ≡ world_of d old → (m : Moment) → IsMomentOf d old m → IsMomentOf d new m
+moment_kept d old new shape births pool world m is = moment_of_parts d old new shape m (world ∙ is.world)
+    (subst (λ b. Remembers (place_of old.shape) b m.calls) (sym births) is.births)
+    (λ s slot rec. ap (λ b. marks.value_in b s) births ∙ is.values s slot (sym (ap (λ b. recorded_in b s) births) ∙ rec))
+    (λ p kind. ap (λ q. told_of q p) pool ∙ is.pool p kind)
+    is.formed is.staged is.clean
+
 pub off_before : (x y : Bool) → (x ≡ true → y ≡ true) → y ≡ false → x ≡ false
 off_before true y f e = sym (f refl) ∙ e
 off_before false y f e = refl

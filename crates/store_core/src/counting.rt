@@ -14,6 +14,7 @@ impl Core {
     ghost use Rattle.store_core.specs.Edits.{LowersCount, Makes, RaisesCount};
     ghost use Rattle.store_core.specs.Frames.{KeepsStands};
     ghost use Rattle.store_core.specs.Layout.{top};
+    ghost use Rattle.store_core.specs.Moments.{KeepsMoments};
     ghost use Rattle.store_core.specs.Views.{page_in};
 
     /// How often a data page is counted, by a count page that is in memory. Constant.
@@ -75,6 +76,7 @@ impl Core {
         ensures shape { self.new.shape ≡ self.old.shape }
         ensures engine { self.new.engine ≡ self.old.engine }
         ensures world { Makes (λ w. w) self.old self.new }
+        ensures moments { KeepsMoments self.old self.new }
         ensures stands { KeepsStands self.old self.new }
     {
         self.ledger.queue.page_changed(p);

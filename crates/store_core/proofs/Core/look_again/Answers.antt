@@ -4,6 +4,7 @@ use Rattle.release_queue.specs.Queued.{QueueLists}
 use Rattle.store_core.specs.Views.{plain_release, world_of}
 use Rattle.store_core.specs.Whole.{IsPlaced}
 use Rattle.store_core.proofs.Edited.{state_stands}
+use Rattle.store_core.proofs.Moved.{moment_kept}
 use Rattle.store_core.proofs.Queued.{queue_world}
 use Rattle.store_core.proofs.Releases.{moved_by_change, placed_changed}
 use Rattle.store_core.proofs.Core.look_again.Goals as goal
@@ -29,3 +30,6 @@ returns-clause-world c d =
 
 pub returns-clause-stands : goal.returns-clause-stands
 returns-clause-stands c sound d array s = state_stands sound d c.args.self.now _ array s refl refl refl (world_of d c.args.self.now) (returns-clause-world c d) s.kept
+
+pub returns-clause-moments : goal.returns-clause-moments
+returns-clause-moments c d m is = moment_kept d c.args.self.now _ refl refl refl (returns-clause-world c d) m is
