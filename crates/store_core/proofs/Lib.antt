@@ -28,10 +28,12 @@ pub mod AppliedLaws
 pub mod Released
 pub mod MomentStands
 pub mod Reserved
-pub mod QueueParts
-pub mod TakenOut
 pub mod Owing
 pub mod Looks
 pub mod OrderMarks
 pub mod OrderlySteps
 pub mod OrderlyEdits
+pub mod QueueParts
+pub mod TakenOut
+pub mod PartLemmas
+pub mod PartSteps

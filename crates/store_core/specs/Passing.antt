@@ -1,13 +1,21 @@
 -- A pass over the queue: what it leaves.
 use Rattle.std.specs.Prelude.{◌≡◌, ◌⊎◌, ◌+◌, ◌*◌, ◌<◌, ◌≤◌, ◌&&◌, not, ℕ, List, [], ◌∷◌, Bool, None, false, true, cond, eqb, length}
+use Rattle.std.specs.List.{All}
+use Rattle.page_device.specs.Meaning.{Meaning}
 use Rattle.page_cache.specs.View.{content_in, holds_in}
 use Rattle.order_model.specs.World.{IsData, Layout, World}
 use Rattle.dep_graph.specs.Pages.{holds}
 use Rattle.finger_table.specs.Index.{PrintsView, is_ready, print_at}
+use Rattle.release_queue.specs.Queued.{is_marked}
 use Rattle.release_queue.specs.declared.Release.{Release}
 use Rattle.engine_model.specs.Entries.{cached_count, cached_print}
+use Rattle.engine_model.specs.Invariant.{Moment}
+use Rattle.engine_model.specs.SmallPass.{SmallPass}
 use Rattle.engine_model.specs.Tight.{live_pages}
 use Rattle.store_core.specs.declared.Core.{Core}
+use Rattle.store_core.specs.Layout.{lay_of}
+use Rattle.store_core.specs.Moments.{IsMomentOf}
+use Rattle.store_core.specs.Orderly.{HasToWait}
 use Rattle.store_core.specs.Owed.{KeepsHolds, Spends, held_for_all}
 
 -- a release that was looked at, and stays
@@ -45,3 +53,27 @@ pub record Frees (lay : Layout) (pages : List ℕ) (w v : World) : Type 0 where
   pub live : live_pages lay w ≡ live_pages lay v + length pages
   pub lower : (p : ℕ) → IsData lay p → cached_count lay v p ≤ cached_count lay w p
   pub prints : (p : ℕ) → IsData lay p → cached_print lay v p ≡ cond (holds pages p) None (cached_print lay w p)
+
+-- From a moment that the core is, a pass by small steps leads to one that the new core is, over the same array.
+pub record PassesFrom (d : Meaning) (m : Moment) (pages : List ℕ) (old new : Core) : Type 0 where
+  pub n : Moment
+  pub is : IsMomentOf d new n
+  pub array : n.array ≡ m.array
+  pub pass : SmallPass (lay_of old.shape) m [] m.world.queue n
+  pub frees : Frees (lay_of old.shape) pages m.world n.world
+
+-- over each device
+abbrev pub PassesByLaws : List ℕ → Core → Core → Type 0
+PassesByLaws pages old new = (d : Meaning) (m : Moment) → IsMomentOf d old m → PassesFrom d m pages old new
+
+-- The counts of so many pages became 0: of those that the laws say, and the index forgets them.
+pub record PassFrees (freed : ℕ) (old new : Core) (before after : PrintsView) : Type 0 where
+  pub pages : List ℕ
+  pub count : freed ≡ length pages
+  pub forgets : Forgets pages before after
+  pub laws : PassesByLaws pages old new
+
+-- each release that is queued has to wait, and none is to be looked at
+pub record AllWait (core : Core) : Type 0 where
+  pub wait : All (HasToWait core) core.ledger.queue.releases
+  pub unmarked : (k : ℕ) → is_marked core.ledger.queue.releases k ≡ false
