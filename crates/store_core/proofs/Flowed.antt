@@ -13,6 +13,7 @@ use Rattle.store_core.specs.declared.Core.{Core}
 use Rattle.store_core.specs.declared.ledger.Ledger.{Ledger}
 use Rattle.store_core.specs.Ledger.{ledger_told}
 use Rattle.store_core.specs.Quiet.{Flows, KeepsRoom, unmoved}
+use Rattle.store_core.proofs.Calls.{flush_ends, not_calm, write_ends}
 use Rattle.store_core.proofs.Releases.{stages_fixed, stages_written}
 use Rattle.store_core.proofs.StepStands.{barrier_stands, failed_barrier_stands, failed_write_stands, queue_written, write_stands}
 use Rattle.store_core.proofs.Stood.{passes_call, passes_same, passes_then}
@@ -70,7 +71,7 @@ module _ (d e : Meaning) (old new : Core) (shape : new.shape ≡ old.shape) wher
   write_flows page w =
       let moved = queue_written old.ledger w.between new.ledger page w.tried w.written.queue in
       record {
-        passes = passes_call (WriteEntry page w.call.block (Ok tt)) d e old new w.call.call shape (λ sound array s. write_stands sound d e old new array shape s page w);
+        passes = passes_call (WriteEntry page w.call.block (Ok tt)) d e old new w.call.call w.cache.calls w.cause.never_falls (λ _. write_ends page w.call.block w.call.call.entry w.call.call.is) shape (λ sound array s. write_stands sound d e old new array shape s page w);
         pages = w.call.call.pages;
         holds = w.cache.holds;
         held = λ q h. w.cache.content q;
@@ -90,7 +91,7 @@ module _ (d e : Meaning) (old new : Core) (shape : new.shape ≡ old.shape) wher
 
   pub failed_write_flows : (page : ℕ) → WriteFailed ledger_told page (at d old.engine old.ledger) (at e new.engine new.ledger) → Flows d e old new
   failed_write_flows page w = record {
-    passes = passes_call (WriteEntry page w.call.block (Err w.failed)) d e old new w.call.call shape (λ sound array s. failed_write_stands sound d e old new array shape s page w);
+    passes = passes_call (WriteEntry page w.call.block (Err w.failed)) d e old new w.call.call w.cache.calls w.cause.never_falls (not_calm w.failed d e w.cause) shape (λ sound array s. failed_write_stands sound d e old new array shape s page w);
     pages = w.call.call.pages;
     holds = w.cache.marks.holds;
     held = λ q h. w.cache.content q;
@@ -107,7 +108,7 @@ module _ (d e : Meaning) (old new : Core) (shape : new.shape ≡ old.shape) wher
 
   pub barrier_flows : BarrierDone ledger_told (at d old.engine old.ledger) (at e new.engine new.ledger) → Flows d e old new
   barrier_flows w = record {
-    passes = passes_call (FlushEntry (Ok tt)) d e old new w.call shape (λ sound array s. barrier_stands sound d e old new array shape s w);
+    passes = passes_call (FlushEntry (Ok tt)) d e old new w.call w.cache.calls w.cause.never_falls (λ _. flush_ends w.call.entry w.call.is) shape (λ sound array s. barrier_stands sound d e old new array shape s w);
     pages = w.call.pages;
     holds = w.cache.holds;
     held = λ q h. w.cache.kept q (table_held new.engine.cache q (omega (arith, h, w.cache.holds q)));
@@ -127,7 +128,7 @@ module _ (d e : Meaning) (old new : Core) (shape : new.shape ≡ old.shape) wher
 
   pub failed_barrier_flows : BarrierFailed ledger_told (at d old.engine old.ledger) (at e new.engine new.ledger) → Flows d e old new
   failed_barrier_flows w = record {
-    passes = passes_call (FlushEntry (Err w.failed)) d e old new w.call shape (λ sound array s. failed_barrier_stands sound d e old new array shape s w);
+    passes = passes_call (FlushEntry (Err w.failed)) d e old new w.call w.cache.calls w.cause.never_falls (not_calm w.failed d e w.cause) shape (λ sound array s. failed_barrier_stands sound d e old new array shape s w);
     pages = w.call.pages;
     holds = w.cache.marks.holds;
     held = λ q h. w.cache.content q;

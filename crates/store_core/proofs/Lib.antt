@@ -2,6 +2,7 @@ pub mod Disk
 pub mod Releases
 pub mod Worlds
 pub mod Clean
+pub mod Calls
 pub mod Stood
 pub mod StepStands
 pub mod Flowed

@@ -1,9 +1,10 @@
 -- What leaves all that a core stands for: one after another, and given back.
-use Rattle.std.proofs.Common.{arith, ◌≡◌, inl, inr, ◌<◌, ◌+◌, ◌-◌, ◌||◌, ℕ, Bool, true, false, cond, refl, sym, ap, ◌∙◌, subst, List, Option, None, eq-eqb, ne_eqb, is_some}
+use Rattle.std.proofs.Common.{arith, ◌≡◌, inl, inr, ◌<◌, ◌+◌, ◌-◌, ◌||◌, ℕ, Bool, true, false, cond, refl, sym, ap, ◌∙◌, subst, List, [], Option, None, eq-eqb, ne_eqb, is_some}
+use Rattle.std.proofs.lemmas.List.Elements.{All-nil}
 use Rattle.std.proofs.lemmas.Bool.{cases_eq, cases_Bool}
 use Rattle.page_device.specs.Block.{Block}
 use Rattle.page_device.specs.Meaning.{Meaning}
-use Rattle.page_device.specs.Moments.{leaves_start}
+use Rattle.page_device.specs.Gains.{gains_none}
 use Rattle.page_layout.specs.Shape.{total}
 use Rattle.page_cache.specs.View as cached
 use Rattle.page_cache.specs.View.{CacheView, content_in, holds_in, in_table, is_recent, is_there}
@@ -22,8 +23,9 @@ use Rattle.store_core.specs.declared.ledger.Ledger.{Ledger}
 use Rattle.store_core.specs.Layout.{place_of}
 use Rattle.store_core.specs.Views.{IsKnown, IsOver, held_or, world_in, world_of}
 use Rattle.store_core.specs.Whole.{IsWhole}
-use Rattle.store_core.specs.Stands.{IsFit, Passes, StandsFor}
+use Rattle.store_core.specs.Stands.{EndsDone, IsFit, Passes, StandsFor}
 use Rattle.store_core.specs.Quiet.{Flows, GivesBack, Quiet, SameGraph, SameReleases, SameRest, none, once}
+use Rattle.store_core.proofs.Calls.{counts_none, no_moment}
 use Rattle.store_core.proofs.Clean.{over}
 use Rattle.store_core.proofs.Flowed.{room_then, same_room, table_held}
 use Rattle.store_core.proofs.Stood.{images_fit, passes_same, passes_then, stands_then}
@@ -96,11 +98,16 @@ rest_stands sound d e old new array s known pages rest world = stands_then sound
     (same_remembered (place_of old.shape) old.ledger.births new.ledger.births s.calls s.births rest.births) (λ p is. ap (λ q. told_of q p) rest.pool ∙ s.pool p is)
 
 -- no call of the device
-still_passes : (d : Meaning) (old new : Core) → SameRest old new
+still_passes : (d : Meaning) (old new : Core) → SameRest old new → new.engine.cache.calls ≡ old.engine.cache.calls
     → (IsOver d old → (q : ℕ) → held_or (content_in new.engine.cache q) (newest_on d.state q) ≡ held_or (content_in old.engine.cache q) (newest_on d.state q)) → Passes d d old new
-still_passes d old new rest same = record {
+still_passes d old new rest calls same = record {
+  calls = [];
+  gains = gains_none d;
+  counted = counts_none old.engine.cache.calls new.engine.cache.calls calls;
+  falls = omega arith;
+  calm = λ _. All-nil EndsDone;
   stands = λ sound array s. rest_stands sound d d old new array s s.known refl rest (rest_world d d old new rest refl (same (over sound d old array s)));
-  leaves = λ sound array s. leaves_start d (IsFit old.shape sound array) (images_fit sound d old array s);
+  each = λ sound array s. no_moment (IsFit old.shape sound array) d.state (images_fit sound d old array s);
   shape = rest.shape;
 }
 
@@ -165,12 +172,12 @@ module _ (d : Meaning) (old new : Core) (rest : SameRest old new) where
   plus_none : (n : ℕ) → n ≡ n + 0
   plus_none n = omega arith
 
-  same_contents : ((q : ℕ) → content_in new.engine.cache q ≡ content_in old.engine.cache q) → Passes d d old new
-  same_contents same = still_passes d old new rest (λ _ q. ap (λ (o : Option Block). held_or o (newest_on d.state q)) (same q))
+  same_contents : new.engine.cache.calls ≡ old.engine.cache.calls → ((q : ℕ) → content_in new.engine.cache q ≡ content_in old.engine.cache q) → Passes d d old new
+  same_contents calls same = still_passes d old new rest calls (λ _ q. ap (λ (o : Option Block). held_or o (newest_on d.state q)) (same q))
 
   pub quiet_same : new.engine.cache ≡ old.engine.cache → Quiet none d d old new
   quiet_same cache = record {
-    passes = same_contents (λ q. ap (λ (c : CacheView). content_in c q) cache);
+    passes = same_contents (ap (λ (c : CacheView). c.calls) cache) (λ q. ap (λ (c : CacheView). content_in c q) cache);
     pages = refl;
     rest = rest;
     holds = λ q. ap (λ (c : CacheView). holds_in c q) cache ∙ plus_none (holds_in old.engine.cache q);
@@ -179,7 +186,7 @@ module _ (d : Meaning) (old new : Core) (rest : SameRest old new) where
 
   pub quiet_contents : SameCache old.engine.cache new.engine.cache → Quiet none d d old new
   quiet_contents same = record {
-    passes = same_contents same.content;
+    passes = same_contents same.numbers.calls same.content;
     pages = refl;
     rest = rest;
     holds = λ q. same.marks.holds q ∙ plus_none (holds_in old.engine.cache q);
@@ -187,7 +194,7 @@ module _ (d : Meaning) (old new : Core) (rest : SameRest old new) where
   }
 
   pub quiet_held : (page : ℕ) → Held old.engine.cache new.engine.cache page → Quiet (once page) d d old new
-  quiet_held page h = record { passes = same_contents h.content; pages = refl; rest = rest; holds = h.holds; held = λ q p. h.content q }
+  quiet_held page h = record { passes = same_contents h.numbers.calls h.content; pages = refl; rest = rest; holds = h.holds; held = λ q p. h.content q }
 
 -- a page is held once less
 dropped_or_not : (b : Bool) (o : Option Block) (n : Block) → held_or o n ≡ n → held_or (cond b o None) n ≡ held_or o n
@@ -202,7 +209,7 @@ held_less q page was now e some = elim (cases_eq q page) [
 
 pub gives_back : (old new : Core) (page : ℕ) → 0 < holds_in old.engine.cache page → SameRest old new → Unheld old.engine.cache new.engine.cache page → GivesBack (once page) old new
 gives_back old new page some rest u = record {
-  passes = λ d. still_passes d old new rest (λ is_over q. elim (cases_Bool (dirty_in old.engine.graph q)) [
+  passes = λ d. still_passes d old new rest u.numbers.calls (λ is_over q. elim (cases_Bool (dirty_in old.engine.graph q)) [
     | inl is ↦ ap (λ (o : Option Block). held_or o (newest_on d.state q)) (u.kept q (table_dirty new.engine.cache q (u.dirty q ∙ old.whole.engine_whole.dirty q ∙ is)))
     | inr off ↦ ap (λ (o : Option Block). held_or o (newest_on d.state q)) (u.content q)
         ∙ dropped_or_not (in_table new.engine.cache q || is_recent new.engine.cache q) (content_in old.engine.cache q) (newest_on d.state q) (is_over.clean q off)

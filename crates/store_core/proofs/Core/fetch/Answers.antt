@@ -16,7 +16,7 @@ invariant_of-self g c =
     }
 
 pub returns-clause-quiet : goal.returns-clause-quiet
-returns-clause-quiet g c = quiet_fetched (g.D.Device.seen c.args.device.now) (g.D.Device.seen c.fetch_page.new.device) c.args.self.now _ c.args.page c.fetch_page.result c.fetch_page.ensures.fetches
+returns-clause-quiet g c = quiet_fetched (g.D.Device.seen c.args.device.now) (g.D.Device.seen c.fetch_page.new.device) c.args.self.now _ c.args.page c.fetch_page.result c.fetch_page.ensures.cause c.fetch_page.ensures.fetches
     (rest_cache c.args.self.now _ refl c.fetch_page.ensures.rest refl)
 
 pub returns-clause-there : goal.returns-clause-there
