@@ -13,6 +13,7 @@ use Rattle.page_cache.specs.View.{CacheView, content_in, holds_in, is_there}
 use Rattle.page_cache.specs.Calls.{Brought, FetchCall, HasFetchCause, SameMarks, is_dropped}
 use Rattle.page_cache.specs.declared.cache.FetchError.{FetchError}
 use Rattle.page_cache.specs.declared.cache.FetchError.TheVariants.{Device, NoMemory}
+use Rattle.order_model.specs.World.{World}
 use Rattle.dep_graph.specs.Lists.{dirty_in}
 use Rattle.engine_model.specs.Disk.{InRange, newest_on}
 use Rattle.engine_model.proofs.Disks.{flush_newest}
@@ -160,6 +161,9 @@ quiet_fetched d e old new page r cause f rest = record {
     each = λ sound array s. no_moment (IsFit old.shape sound array) d.state (images_fit sound d old array s);
     shape = rest.shape;
   };
+  cached = λ sound array s q.
+      let is_over = over sound d old array s in
+      ap (λ (w : World). w.cached q) (rest_world d e old new rest (fetch_state d e r f.call s.known).1 (fetched_cached d e old new page is_over r f));
   pages = fetch_pages d e r f.call;
   rest = rest;
   holds = λ q. fetch_holds d e old.engine.cache new.engine.cache page r f q ∙ plus_none (holds_in old.engine.cache q);

@@ -24,7 +24,7 @@ use Rattle.store_core.specs.Layout.{place_of}
 use Rattle.store_core.specs.Views.{IsKnown, IsOver, held_or, world_in, world_of}
 use Rattle.store_core.specs.Whole.{IsWhole}
 use Rattle.store_core.specs.Stands.{EndsDone, IsFit, Passes, StandsFor}
-use Rattle.store_core.specs.Quiet.{Flows, GivesBack, Quiet, SameGraph, SameReleases, SameRest, none, once}
+use Rattle.store_core.specs.Quiet.{Flows, GivesBack, Quiet, SameCached, SameGraph, SameReleases, SameRest, none, once}
 use Rattle.store_core.proofs.Calls.{counts_none, no_moment}
 use Rattle.store_core.proofs.Clean.{over}
 use Rattle.store_core.proofs.Flowed.{room_then, same_room, table_held}
@@ -111,13 +111,22 @@ still_passes d old new rest calls same = record {
   shape = rest.shape;
 }
 
+-- each page is cached as before, where no call of the device was made
+still_cached : (d : Meaning) (old new : Core)
+    → (IsOver d old → (q : ℕ) → held_or (content_in new.engine.cache q) (newest_on d.state q) ≡ held_or (content_in old.engine.cache q) (newest_on d.state q)) → SameCached d d old new
+still_cached d old new same sound array s = same (over sound d old array s)
+
+cached_then : (d e f : Meaning) (a b c : Core) → Passes d e a b → SameCached d e a b → SameCached e f b c → SameCached d f a c
+cached_then d e f a b c p h k sound array s q = k sound array (p.stands sound array s) q ∙ h sound array s q
+
 -- quiet parts: none, and one after another
 pub quiet_none : (d : Meaning) (a : Core) → Quiet none d d a a
-quiet_none d a = record { passes = passes_same d a a refl refl refl; pages = refl; rest = same_rest a; holds = λ q. omega arith; held = λ q h. refl }
+quiet_none d a = record { passes = passes_same d a a refl refl refl; cached = λ sound array s q. refl; pages = refl; rest = same_rest a; holds = λ q. omega arith; held = λ q h. refl }
 
 pub quiet_then : (m n : ℕ → ℕ) (d e f : Meaning) (a b c : Core) → Quiet m d e a b → Quiet n e f b c → Quiet (λ q. m q + n q) d f a c
 quiet_then m n d e f a b c h k = record {
   passes = passes_then d e f a b c h.passes k.passes;
+  cached = cached_then d e f a b c h.passes h.cached k.cached;
   pages = k.pages ∙ h.pages;
   rest = rest_then a b c h.rest k.rest;
   holds = λ q. omega (arith, h.holds q, k.holds q);
@@ -128,6 +137,7 @@ quiet_then m n d e f a b c h k = record {
 pub quiet_on : (m : ℕ → ℕ) (d e f : Meaning) (a b c : Core) → Quiet none d e a b → Quiet m e f b c → Quiet m d f a c
 quiet_on m d e f a b c h k = record {
   passes = passes_then d e f a b c h.passes k.passes;
+  cached = cached_then d e f a b c h.passes h.cached k.cached;
   pages = k.pages ∙ h.pages;
   rest = rest_then a b c h.rest k.rest;
   holds = λ q. omega (arith, h.holds q, k.holds q);
@@ -135,12 +145,13 @@ quiet_on m d e f a b c h k = record {
 }
 
 pub quiet_as : (m n : ℕ → ℕ) (d e : Meaning) (a b : Core) → ((q : ℕ) → m q ≡ n q) → Quiet m d e a b → Quiet n d e a b
-quiet_as m n d e a b same h = record { passes = h.passes; pages = h.pages; rest = h.rest; holds = λ q. h.holds q ∙ ap (λ (x : ℕ). holds_in a.engine.cache q + x) (same q); held = h.held }
+quiet_as m n d e a b same h = record { passes = h.passes; cached = h.cached; pages = h.pages; rest = h.rest; holds = λ q. h.holds q ∙ ap (λ (x : ℕ). holds_in a.engine.cache q + x) (same q); held = h.held }
 
 -- and given back
 pub back_then : (m n : ℕ → ℕ) (a b c : Core) → GivesBack m a b → GivesBack n b c → GivesBack (λ q. m q + n q) a c
 back_then m n a b c h k = record {
   passes = λ d. passes_then d d d a b c (h.passes d) (k.passes d);
+  cached = λ d. cached_then d d d a b c (h.passes d) (h.cached d) (k.cached d);
   rest = rest_then a b c h.rest k.rest;
   holds = λ q. omega (arith, h.holds q, k.holds q);
   held = λ q p. k.held q p ∙ h.held q (omega (arith, p, k.holds q));
@@ -149,6 +160,7 @@ back_then m n a b c h k = record {
 pub quiet_back : (m : ℕ → ℕ) (d e : Meaning) (a b c : Core) → Quiet m d e a b → GivesBack m b c → Quiet none d e a c
 quiet_back m d e a b c h k = record {
   passes = passes_then d e e a b c h.passes (k.passes e);
+  cached = cached_then d e e a b c h.passes h.cached (k.cached e);
   pages = h.pages;
   rest = rest_then a b c h.rest k.rest;
   holds = λ q. omega (arith, h.holds q, k.holds q);
@@ -159,6 +171,7 @@ quiet_back m d e a b c h k = record {
 pub flows_quiet : (d e : Meaning) (a b : Core) → Quiet none d e a b → Flows d e a b
 flows_quiet d e a b q = record {
   passes = q.passes;
+  cached = q.cached;
   pages = q.pages;
   holds = λ x. omega (arith, q.holds x);
   held = q.held;
@@ -175,9 +188,13 @@ module _ (d : Meaning) (old new : Core) (rest : SameRest old new) where
   same_contents : new.engine.cache.calls ≡ old.engine.cache.calls → ((q : ℕ) → content_in new.engine.cache q ≡ content_in old.engine.cache q) → Passes d d old new
   same_contents calls same = still_passes d old new rest calls (λ _ q. ap (λ (o : Option Block). held_or o (newest_on d.state q)) (same q))
 
+  same_held : ((q : ℕ) → content_in new.engine.cache q ≡ content_in old.engine.cache q) → SameCached d d old new
+  same_held same = still_cached d old new (λ _ q. ap (λ (o : Option Block). held_or o (newest_on d.state q)) (same q))
+
   pub quiet_same : new.engine.cache ≡ old.engine.cache → Quiet none d d old new
   quiet_same cache = record {
     passes = same_contents (ap (λ (c : CacheView). c.calls) cache) (λ q. ap (λ (c : CacheView). content_in c q) cache);
+    cached = same_held (λ q. ap (λ (c : CacheView). content_in c q) cache);
     pages = refl;
     rest = rest;
     holds = λ q. ap (λ (c : CacheView). holds_in c q) cache ∙ plus_none (holds_in old.engine.cache q);
@@ -187,6 +204,7 @@ module _ (d : Meaning) (old new : Core) (rest : SameRest old new) where
   pub quiet_contents : SameCache old.engine.cache new.engine.cache → Quiet none d d old new
   quiet_contents same = record {
     passes = same_contents same.numbers.calls same.content;
+    cached = same_held same.content;
     pages = refl;
     rest = rest;
     holds = λ q. same.marks.holds q ∙ plus_none (holds_in old.engine.cache q);
@@ -194,7 +212,7 @@ module _ (d : Meaning) (old new : Core) (rest : SameRest old new) where
   }
 
   pub quiet_held : (page : ℕ) → Held old.engine.cache new.engine.cache page → Quiet (once page) d d old new
-  quiet_held page h = record { passes = same_contents h.numbers.calls h.content; pages = refl; rest = rest; holds = h.holds; held = λ q p. h.content q }
+  quiet_held page h = record { passes = same_contents h.numbers.calls h.content; cached = same_held h.content; pages = refl; rest = rest; holds = h.holds; held = λ q p. h.content q }
 
 -- a page is held once less
 dropped_or_not : (b : Bool) (o : Option Block) (n : Block) → held_or o n ≡ n → held_or (cond b o None) n ≡ held_or o n
@@ -207,13 +225,18 @@ held_less q page was now e some = elim (cases_eq q page) [
   | inr ne ↦ let zero : once page q ≡ 0 = rw (ne_eqb q page ne) refl in omega (arith, e, zero)
 ]
 
+less_cached : (old new : Core) (page : ℕ) → Unheld old.engine.cache new.engine.cache page → (d : Meaning) → IsOver d old
+    → (q : ℕ) → held_or (content_in new.engine.cache q) (newest_on d.state q) ≡ held_or (content_in old.engine.cache q) (newest_on d.state q)
+less_cached old new page u d is_over q = elim (cases_Bool (dirty_in old.engine.graph q)) [
+  | inl is ↦ ap (λ (o : Option Block). held_or o (newest_on d.state q)) (u.kept q (table_dirty new.engine.cache q (u.dirty q ∙ old.whole.engine_whole.dirty q ∙ is)))
+  | inr off ↦ ap (λ (o : Option Block). held_or o (newest_on d.state q)) (u.content q)
+      ∙ dropped_or_not (in_table new.engine.cache q || is_recent new.engine.cache q) (content_in old.engine.cache q) (newest_on d.state q) (is_over.clean q off)
+]
+
 pub gives_back : (old new : Core) (page : ℕ) → 0 < holds_in old.engine.cache page → SameRest old new → Unheld old.engine.cache new.engine.cache page → GivesBack (once page) old new
 gives_back old new page some rest u = record {
-  passes = λ d. still_passes d old new rest u.numbers.calls (λ is_over q. elim (cases_Bool (dirty_in old.engine.graph q)) [
-    | inl is ↦ ap (λ (o : Option Block). held_or o (newest_on d.state q)) (u.kept q (table_dirty new.engine.cache q (u.dirty q ∙ old.whole.engine_whole.dirty q ∙ is)))
-    | inr off ↦ ap (λ (o : Option Block). held_or o (newest_on d.state q)) (u.content q)
-        ∙ dropped_or_not (in_table new.engine.cache q || is_recent new.engine.cache q) (content_in old.engine.cache q) (newest_on d.state q) (is_over.clean q off)
-  ]);
+  passes = λ d. still_passes d old new rest u.numbers.calls (less_cached old new page u d);
+  cached = λ d. still_cached d old new (less_cached old new page u d);
   rest = rest;
   holds = λ q. held_less q page (holds_in old.engine.cache q) (holds_in new.engine.cache q) (u.holds q) (λ z. subst (λ x. 0 < holds_in old.engine.cache x) (sym z) some);
   held = λ q h. u.kept q (table_held new.engine.cache q h);
