@@ -25,3 +25,4 @@ pub mod Grown
 pub mod AppliedStands
 pub mod Alike
 pub mod Reserved
+pub mod Totaled

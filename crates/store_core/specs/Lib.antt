@@ -15,3 +15,4 @@ pub mod Quiet
 pub mod Room
 pub mod Fetching
 pub mod Weaker
+pub mod Totals
