@@ -13,7 +13,7 @@ use Rattle.birth_marks.specs.declared.births.Met.{Met}
 use Rattle.birth_marks.specs.declared.pages.Mark.{Mark}
 use Rattle.birth_marks.specs.Pages.{PagesView, is_known, mark_of, settled}
 use Rattle.order_model.specs.Calls.{same_slot}
-use Rattle.birth_marks.specs.Births.{BirthsView, Changed, FixedAll, PlacedAt, Same, TriedAt, WrittenAt, first_of, is_after, is_live, is_tried, left_in, meets, met_in, moment_in, page_in, place_in, record_in, recorded_in, value_in, written_in}
+use Rattle.birth_marks.specs.Births.{BirthsView, Changed, SameBut, FixedAll, PlacedAt, Same, TriedAt, WrittenAt, first_of, is_after, is_live, is_tried, left_in, meets, met_in, moment_in, page_in, place_in, record_in, recorded_in, value_in, written_in}
 use Rattle.birth_marks.specs.Kept.{AreBehind}
 
 module _ (pages later : PagesView) where
@@ -290,6 +290,17 @@ module _ (b c : BirthsView) (slot : Slot) (at from to moment : ℕ) (is : AreBeh
     ];
     place = λ s. elim (cases_Bool (same_slot slot s)) [ inl e ↦ ap page_in (record_here s e) ∙ rw e | inr e ↦ ap page_in (record_there s e) ∙ rw e ];
   }
+
+  pub others_same : SameBut slot b c
+  others_same = record {
+    recorded = live_there;
+    place = λ s e. ap page_in (record_there s e);
+    value = λ s e. ap left_in (record_there s e);
+    met = λ s v e. rw (live_there s e, meets_same b.pages c.pages (λ p. rw (marks p)) v (moment_in b s v) (moment_in c s v) (record_in b s) (record_in c s) (moment_there s v e) (record_there s e));
+  }
+    where
+      live_there : (s : Slot) → same_slot slot s ≡ false → recorded_in c s ≡ recorded_in b s
+      live_there s e = live_same b.pages c.pages (λ p. rw (marks p)) (record_in b s) (record_in c s) (record_there s e)
 
   pub changed_behind : (recorded_in b slot ≡ true → place_in b slot ≡ at) → AreBehind c (moment + 1)
   changed_behind stays = record {

@@ -102,6 +102,13 @@ pub record Changed (old new : BirthsView) (slot : Slot) (at from to : ℕ) : Typ
   pub met : (s : Slot) (v : ℕ) → met_in new s v ≡ ((same_slot slot s && (not (recorded_in old s) && eqb from v)) || met_in old s v)
   pub written : (p : ℕ) → written_in new p ≡ (not (eqb at p) && written_in old p)
 
+-- what is recorded of each other slot is the same, and so is what it met
+pub record SameBut (slot : Slot) (old new : BirthsView) : Type 0 where
+  pub recorded : (s : Slot) → same_slot slot s ≡ false → recorded_in new s ≡ recorded_in old s
+  pub place : (s : Slot) → same_slot slot s ≡ false → place_in new s ≡ place_in old s
+  pub value : (s : Slot) → same_slot slot s ≡ false → value_in new s ≡ value_in old s
+  pub met : (s : Slot) (v : ℕ) → same_slot slot s ≡ false → met_in new s v ≡ met_in old s v
+
 -- a write of the page was about to be made: its slots met their values
 pub record TriedAt (old new : BirthsView) (at : ℕ) : Type 0 where
   pub slots : SameSlots old new

@@ -6,7 +6,7 @@ ghost use Rattle.birth_marks.specs.contracts.births.PairPartialEq.TheImpl.{eq-va
 ghost use Rattle.order_model.specs.Calls.{same_slot};
 ghost use Rattle.birth_marks.specs.Pages.{is_known, mark_of, settled};
 ghost use Rattle.birth_marks.specs.Kept.{AreBehind, AreLinked, Gone, HeadsPage, Swept};
-ghost use Rattle.birth_marks.specs.Births.{Changed, FixedAll, KeepsRecorded, PlacedAt, Same, TriedAt, WrittenAt, first_of, is_after, is_tried, is_unborn_in, place_in, record_in, recorded_in, value_in};
+ghost use Rattle.birth_marks.specs.Births.{Changed, FixedAll, KeepsRecorded, PlacedAt, Same, SameBut, TriedAt, WrittenAt, first_of, is_after, is_tried, is_unborn_in, place_in, record_in, recorded_in, value_in};
 
 use crate::pages::Pages;
 use crate::{NoMemory, Slot};
@@ -237,6 +237,7 @@ impl Births {
         requires place { recorded_in self.old slot ≡ true → place_in self.old slot ≡ at }
         ensures changed { (recorded_in self.old slot ≡ true → value_in self.old slot ≡ from) → Changed self.old self.new slot at from to }
         ensures placed { PlacedAt self.old self.new slot at }
+        ensures others { SameBut slot self.old self.new }
         ensures spare { self.new.spare ≡ self.old.spare - 1 }
     {
         let was = self.live(slot);

@@ -1,22 +1,27 @@
 -- A release that is applied, in its steps.
-use Rattle.std.proofs.Common.{arith, ◌≡◌, ◌≢◌, ◌⊎◌, inl, inr, ◌<◌, ◌≤◌, ◌+◌, ◌-◌, ℕ, Bool, true, refl, sym, ap, ◌∙◌, subst, List, Option, Some, None, is_some, not, ◌&&◌, eqb, eq-eqb}
+use Rattle.std.proofs.Common.{arith, ◌≡◌, ◌≢◌, ◌⊎◌, inl, inr, ◌<◌, ◌≤◌, ◌+◌, ◌-◌, ℕ, Bool, true, false, cond, refl, sym, ap, ◌∙◌, subst, List, Option, Some, None, is_some, not, ◌&&◌, ◌||◌, eqb, eq-eqb}
 use Rattle.std.specs.List.{remove}
 use Rattle.page_device.specs.Block.{Block, zero_block}
 use Rattle.page_device.specs.Meaning.{Meaning}
 use Rattle.page_layout.specs.Shape.{ShapeView, count_page, print_page, print_place}
 use Rattle.page_layout.specs.Tables.{print_entry_of}
 use Rattle.page_cache.specs.View.{CacheView, content_in, holds_in, is_there}
-use Rattle.std.proofs.lemmas.Bool.{or_right}
+use Rattle.std.proofs.lemmas.Bool.{and_from, or_right, true≢false}
 use Rattle.order_model.specs.Paths.{Closes}
 use Rattle.dep_graph.proofs.CountLemmas.{holds_placed}
 use Rattle.dep_graph.proofs.PathLemmas.{closes_before}
+use Rattle.order_model.specs.Pool.{after_zeroed}
+use Rattle.page_alloc.specs.Pool.{IsTold, PoolView, told_of}
+use Rattle.dep_graph.specs.Pages.{holds}
 use Rattle.dep_graph.specs.Lists.{GraphLists, dirty_in, entered, hung_in, live_in, node_count}
-use Rattle.birth_marks.specs.Births.{is_unborn_in}
+use Rattle.birth_marks.specs.Births.{SameBut, is_unborn_in}
 use Rattle.ref_counts.specs.Counts.{count_in}
 use Rattle.release_queue.specs.declared.Release.{Release}
 use Rattle.release_queue.specs.Queued.{QueueLists}
 use Rattle.order_model.specs.declared.Slot.TheVariants.{Print}
 use Rattle.order_model.specs.World.{Queued}
+use Rattle.flush_engine.specs.declared.tallies.Tally.{Tally}
+use Rattle.flush_engine.specs.Tallies.{counted}
 use Rattle.flush_engine.specs.View.{EngineView}
 use Rattle.engine_model.specs.Entries.{EdgeKind, IsTable}
 use Rattle.store_core.specs.declared.Core.{Core}
@@ -28,7 +33,7 @@ use Rattle.store_core.specs.Edits.{LowersCount}
 use Rattle.store_core.specs.Frames.{KeepsStands, OnlyEngine, SameHolds}
 use Rattle.store_core.specs.Counted.{LowerStands}
 use Rattle.store_core.specs.Printed.{PrintStands, PrintsPage}
-use Rattle.store_core.specs.Applied.{AppliesRelease, CanApply, ClearsPrint, GrowsInto, MapOrdered, Takes, count_of_release, has_print_of, is_last_print, is_print_unborn}
+use Rattle.store_core.specs.Applied.{CanApply, ClearsPrint, GrowsInto, LowersRelease, MapOrdered, Takes, count_of_release, has_print_of, is_last_print, is_print_unborn, loses_print}
 use Rattle.store_core.proofs.Edited.{cached_there, held_there, page_is}
 use Rattle.store_core.proofs.Grown.{grows_none, grows_then, grows_touched, takes_more, takes_none, takes_then}
 use Rattle.store_core.proofs.Clean.{apart_pages}
@@ -50,12 +55,12 @@ print_table shape r placed = inr (r.page, (placed.first, placed.last), inr place
 apart_at : (shape : ShapeView) (r : Release) → IsPlaced shape r → r.count_at ≢ r.print_at
 apart_at shape r placed e = (apart_pages shape).count_print r.page r.page (placed.first, placed.last) (placed.first, placed.last) (sym placed.count_at ∙ e ∙ placed.print_at)
 
-some_print : (o : Option (List ℕ)) → is_some o ≡ true → (x : List ℕ) × (o ≡ Some x)
+pub some_print : (o : Option (List ℕ)) → is_some o ≡ true → (x : List ℕ) × (o ≡ Some x)
 some_print None h = cc
 some_print (Some x) h = (x, refl)
 
 -- what is cached of a page that is held
-cached_held : (core : Core) (at page : ℕ) → at ≡ page → 0 < holds_in core.engine.cache at → (d : Meaning) → (world_of d core).cached page ≡ page_in core at
+pub cached_held : (core : Core) (at page : ℕ) → at ≡ page → 0 < holds_in core.engine.cache at → (d : Meaning) → (world_of d core).cached page ≡ page_in core at
 cached_held core at page is held d = ap (world_of d core).cached (sym is) ∙ cached_there d core at (held_there core.engine.cache at held)
 
 pub clear_stands : (old c n : Core) (r : Release) → IsPlaced old.shape r → 0 < holds_in c.engine.cache r.print_at → page_in c r.print_at ≡ page_in old r.print_at → c.shape ≡ old.shape → has_print_of old r ≡ true
@@ -74,10 +79,11 @@ clear_stands old c n r placed held same shape has ordered keeps clears = λ soun
     })
 
 -- what a print that goes leaves
-pub clears_print : (a b c n : Core) (r : Release) → IsPlaced a.shape r → count_of_release a r ≡ 1
+pub clears_print : (a b c n : Core) (r : Release) → IsPlaced a.shape r → count_of_release a r ≡ 1 → has_print_of a r ≡ true
     → b.engine.graph ≡ entered r.print_at a.engine.graph → SameHolds a b → ((q : ℕ) → page_in b q ≡ page_in a q) → OnlyEngine a b → node_count b.engine.graph ≤ node_count a.engine.graph + 1 → a.engine.graph.spare_nodes ≤ b.engine.graph.spare_nodes + 1
+    → b.engine.tallies ≡ counted r.print_at a.engine.tallies → c.engine.graph.dirty ≡ b.engine.graph.dirty → c.engine.tallies ≡ b.engine.tallies
     → GrowsInto r.count_at b.engine.graph c.engine.graph → Takes 0 1 b.engine c.engine → c.engine.cache ≡ b.engine.cache → OnlyEngine b c → PrintsPage r.page None c n → ClearsPrint r a n
-clears_print a b c n r placed one graph same pages rest nodes spare grows takes cache only printed =
+clears_print a b c n r placed one had graph same pages rest nodes spare edited same_dirty same_tallies grows takes cache only printed =
     let shape : c.shape ≡ a.shape = only.shape ∙ rest.shape in
     let there : IsPlaced c.shape r = subst (λ (x : ShapeView). IsPlaced x r) (sym shape) placed in
     let ledger : c.ledger ≡ a.ledger = only.ledger ∙ rest.ledger in
@@ -87,6 +93,10 @@ clears_print a b c n r placed one graph same pages rest nodes spare grows takes 
     let both : Takes 1 1 a.engine c.engine = takes_then 1 0 0 1 a.engine b.engine c.engine first takes in
     let fewer = printed.spare in
     let changes : c.ledger.births.spare ≡ a.ledger.births.spare = ap (λ (l : Ledger). l.births.spare) ledger in
+    let loses : loses_print a r ≡ true = and_from _ _ (eq-eqb (count_of_release a r) 1 one) had in
+    let first = placed.first in
+    let page_n : page_in n r.print_at ≡ printed.page = ap (page_in n) there.print_at ∙ sym (page_is n (print_page c.shape r.page) printed.page printed.only.here) in
+    let page_c : page_in c (print_page c.shape r.page) ≡ page_in a r.print_at = ap (page_in c) (sym there.print_at) ∙ ap (λ (k : CacheView). held_or (content_in k r.print_at) zero_block) cache ∙ pages r.print_at in
     record {
       shape = printed.only.shape ∙ shape;
       queue = ap (λ (l : Ledger). l.queue) printed.ledger ∙ ap (λ (l : Ledger). l.queue) ledger;
@@ -99,6 +109,13 @@ clears_print a b c n r placed one graph same pages rest nodes spare grows takes 
       others = λ q ne. printed.only.others q (λ e. ne (e ∙ sym there.print_at)) ∙ ap (λ (k : CacheView). held_or (content_in k q) zero_block) cache ∙ pages q;
       none = λ h. ap (λ (k : ℕ). print_entry_of (page_in n k) (print_place r.page)) there.print_at ∙ ap (λ (p : Block). print_entry_of p (print_place r.page)) (sym (page_is n (print_page c.shape r.page) printed.page printed.only.here)) ∙ printed.sets.entry;
       kept = λ more. absurd (omega (arith, more, one));
+      prints = λ p from ne on. let at : print_page a.shape p ≡ print_page a.shape r.page = on ∙ placed.print_at in
+          ap (λ (x : Block). print_entry_of x (print_place p)) page_n ∙ printed.sets.others (print_place p) (λ e. ne (omega (arith, e, at, from, first))) ∙ ap (λ (x : Block). print_entry_of x (print_place p)) page_c;
+      dirty = λ x. ap (λ (g : GraphLists). dirty_in g x) last ∙ ap (λ (l : List ℕ). holds l x) same_dirty ∙ ap (λ (g : GraphLists). dirty_in g x) graph ∙ holds_placed r.print_at a.engine.graph.dirty x
+          ∙ sym (ap (λ (y : Bool). dirty_in a.engine.graph x || (y && eqb x r.print_at)) loses);
+      same_births = λ stays. absurd (true≢false (sym loses ∙ stays));
+      births = subst (λ (l : Ledger). SameBut (Print r.page) l.births n.ledger.births) ledger printed.other_slots;
+      tallies = ap (λ (e : EngineView). e.tallies) printed.only.engine ∙ same_tallies ∙ edited ∙ sym (ap (λ (y : Bool). cond y (counted r.print_at a.engine.tallies) a.engine.tallies) loses);
       grows = subst (λ (g : GraphLists). GrowsInto r.count_at a.engine.graph g) (sym last) (grows_then r.count_at a.engine.graph b.engine.graph c.engine.graph (grows_touched r.count_at r.print_at a.engine.graph b.engine.graph graph) grows);
       takes = record {
         spare_nodes = subst (λ (g : GraphLists). a.engine.graph.spare_nodes ≤ g.spare_nodes + 1) (sym last) both.spare_nodes;
@@ -109,9 +126,17 @@ clears_print a b c n r placed one graph same pages rest nodes spare grows takes 
       changes = omega (arith, fewer, changes);
     }
 
+or_none : (x : Bool) → x ≡ (x || false)
+or_none true = refl
+or_none false = refl
+
+pub never_both : (x y : Bool) → y ≡ false → (x && y) ≡ false
+never_both true y e = e
+never_both false y e = refl
+
 -- nothing had to go
-pub clears_none : (core : Core) (r : Release) → (count_of_release core r ≡ 1 → print_entry_of (page_in core r.print_at) (print_place r.page) ≡ None) → ClearsPrint r core core
-clears_none core r none = record {
+pub clears_none : (core : Core) (r : Release) → (count_of_release core r ≡ 1 → print_entry_of (page_in core r.print_at) (print_place r.page) ≡ None) → loses_print core r ≡ false → ClearsPrint r core core
+clears_none core r none stays = record {
   shape = refl;
   queue = refl;
   pool = refl;
@@ -119,6 +144,11 @@ clears_none core r none = record {
   others = λ q ne. refl;
   none = none;
   kept = λ more. refl;
+  prints = λ p first ne on. refl;
+  dirty = λ x. or_none (dirty_in core.engine.graph x) ∙ sym (ap (λ (y : Bool). dirty_in core.engine.graph x || (y && eqb x r.print_at)) stays);
+  same_births = λ h. refl;
+  births = record { recorded = λ s ne. refl; place = λ s ne. refl; value = λ s ne. refl; met = λ s v ne. refl };
+  tallies = sym (ap (λ (y : Bool). cond y (counted r.print_at core.engine.tallies) core.engine.tallies) stays);
   grows = grows_none r.count_at core.engine.graph;
   takes = takes_more 0 0 1 1 core.engine core.engine (takes_none core.engine) (omega arith) (omega arith);
   changes = omega arith;
@@ -222,8 +252,16 @@ module _ (a b c e n : Core) (i : ℕ) (r : Release) (can : CanApply i r a) (plac
         from_hung_map = λ z. cleared.grows.barred r.map_at r.count_at (ordered.barred z (touched_grows.hung r.map_at ∙ hung_a z));
       })
 
-  pub applies_release : node_count b.engine.graph ≤ node_count a.engine.graph + 1 → a.engine.graph.spare_nodes ≤ b.engine.graph.spare_nodes + 1 → Takes 0 1 b.engine c.engine → LowersCount i r e n → AppliesRelease i r a n
-  applies_release nodes spare takes low =
+  or_then : (x y z : Bool) → ((x || y) || z) ≡ (x || (y || z))
+  or_then true y z = refl
+  or_then false y z = refl
+
+  loses_same : loses_print c r ≡ loses_print a r
+  loses_same = ap (λ (p : Block). eqb (count_in p r.page) 1 && has_print_of c r) (page_c r.count_at) ∙ ap (λ (p : Block). eqb (count_of_release a r) 1 && is_some (print_entry_of p (print_place r.page))) (page_c r.print_at)
+
+  pub lowers_release : node_count b.engine.graph ≤ node_count a.engine.graph + 1 → a.engine.graph.spare_nodes ≤ b.engine.graph.spare_nodes + 1 → b.engine.tallies ≡ counted r.count_at a.engine.tallies → c.engine.graph.dirty ≡ b.engine.graph.dirty → c.engine.tallies ≡ b.engine.tallies
+      → Takes 0 1 b.engine c.engine → LowersCount i r e n → LowersRelease i r a n
+  lowers_release nodes spare edited same_dirty same_tallies takes low =
       let edges : a.engine.graph.spare_edges ≡ b.engine.graph.spare_edges = sym (ap (λ (g : GraphLists). g.spare_edges) graph) in
       let first : Takes 1 0 a.engine b.engine = record { spare_nodes = spare; spare_edges = omega (arith, edges); count = nodes; room = rest.room } in
       let three : Takes 2 2 a.engine e.engine = takes_then 1 1 1 1 a.engine c.engine e.engine (takes_then 1 0 0 1 a.engine b.engine c.engine first takes) cleared.takes in
@@ -234,18 +272,36 @@ module _ (a b c e n : Core) (i : ℕ) (r : Release) (can : CanApply i r a) (plac
       let fewer = cleared.changes in
       let changes_c : c.ledger.births.spare ≡ a.ledger.births.spare = ap (λ (l : Ledger). l.births.spare) ledger in
       let changes_n : n.ledger.births.spare ≡ e.ledger.births.spare = ap (λ (l : Ledger). l.births.spare) low.ledger in
+      let first = placed.first in
+      let some = can.counted in
+      let births_n : n.ledger.births ≡ e.ledger.births = ap (λ (l : Ledger). l.births) low.ledger in
+      let births_c : c.ledger.births ≡ a.ledger.births = ap (λ (l : Ledger). l.births) ledger in
+      let pool_e : e.ledger.pool ≡ a.ledger.pool = cleared.pool ∙ ap (λ (l : Ledger). l.pool) ledger in
+      let left : count_in low.page r.page ≡ count_of_release a r - 1 = low.sets.here ∙ ap (λ (p : Block). count_in p r.page - 1) count_page_same in
+      let now : c.engine.tallies ≡ counted r.count_at a.engine.tallies = same_tallies ∙ edited in
       record {
         shape = low.only.shape ∙ shape_e;
         queue = ap (λ (l : Ledger). l.queue) low.ledger ∙ ap (λ (q : QueueLists). record q { releases = remove q.releases i }) (cleared.queue ∙ ap (λ (l : Ledger). l.queue) ledger);
         count = ap (λ (p : Block). count_in p r.page) (sym (page_is n r.count_at low.page low.only.here)) ∙ low.sets.here ∙ ap (λ (p : Block). count_in p r.page - 1) count_page_same;
         none = λ one. ap (λ (p : Block). print_entry_of p (print_place r.page)) (low.only.others r.print_at away) ∙ cleared.none (count_c ∙ one);
         kept = λ more. low.only.others r.print_at away ∙ cleared.kept (omega (arith, more, count_c)) ∙ page_c r.print_at;
+        counts = λ p from ne on. ap (λ (x : Block). count_in x p) (sym (page_is n r.count_at low.page low.only.here)) ∙ low.sets.others p from ne (subst (λ (x : ShapeView). count_page x p ≡ count_page x r.page) (sym shape_e) (on ∙ placed.count_at)) ∙ ap (λ (x : Block). count_in x p) count_page_same;
+        prints = λ p from ne on. ap (λ (x : Block). print_entry_of x (print_place p)) (low.only.others r.print_at away) ∙ cleared.prints p from ne (subst (λ (x : ShapeView). print_page x p ≡ r.print_at) (sym shape_c) on) ∙ ap (λ (x : Block). print_entry_of x (print_place p)) (page_c r.print_at);
         others = λ q ne ne_print. low.only.others q ne ∙ cleared.others q ne_print ∙ page_c q;
         same = record {
           holds = λ q. low.only.same.holds q ∙ held_e q;
           there = λ q. low.only.same.there q ∙ cleared.same.there q ∙ ap (λ (k : CacheView). is_there k q) cache ∙ same.there q;
           calls = low.only.same.calls ∙ cleared.same.calls ∙ ap (λ (k : CacheView). k.calls) cache ∙ same.calls;
         };
+        dirty = λ x. ap (λ (g : GraphLists). dirty_in g x) last ∙ cleared.dirty x
+            ∙ ap (λ (y : Bool). y || (loses_print c r && eqb x r.print_at)) (ap (λ (l : List ℕ). holds l x) same_dirty ∙ ap (λ (g : GraphLists). dirty_in g x) graph ∙ holds_placed r.count_at a.engine.graph.dirty x)
+            ∙ ap (λ (y : Bool). (dirty_in a.engine.graph x || eqb x r.count_at) || (y && eqb x r.print_at)) loses_same ∙ or_then (dirty_in a.engine.graph x) (eqb x r.count_at) (loses_print a r && eqb x r.print_at);
+        same_births = λ stays. births_n ∙ cleared.same_births (loses_same ∙ stays) ∙ births_c;
+        births = subst (λ y. SameBut (Print r.page) y n.ledger.births) births_c (subst (λ y. SameBut (Print r.page) c.ledger.births y) (sym births_n) cleared.births);
+        zeroed = λ one. subst (λ (y : PoolView). IsTold a.shape (after_zeroed r.page (told_of y)) n.ledger.pool) pool_e (subst (λ (x : ShapeView). IsTold x (after_zeroed r.page (told_of e.ledger.pool)) n.ledger.pool) shape_e (low.zero (omega (arith, left, one))));
+        more = λ many. low.more (omega (arith, left, many)) ∙ pool_e;
+        tallies = ap (λ (x : EngineView). x.tallies) low.only.engine ∙ cleared.tallies ∙ ap (λ (y : Bool). cond y (counted r.print_at c.engine.tallies) c.engine.tallies) loses_same
+            ∙ ap (λ (t : List Tally). cond (loses_print a r) (counted r.print_at t) t) now;
         grows = subst (λ (g : GraphLists). GrowsInto r.count_at a.engine.graph g) (sym last) (grows_then r.count_at a.engine.graph c.engine.graph e.engine.graph (grows_then r.count_at a.engine.graph b.engine.graph c.engine.graph touched_grows grows) cleared.grows);
         takes = record {
           spare_nodes = subst (λ (g : GraphLists). a.engine.graph.spare_nodes ≤ g.spare_nodes + 2) (sym last) three.spare_nodes;

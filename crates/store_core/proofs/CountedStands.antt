@@ -36,7 +36,7 @@ index_few : (shape : ShapeView) (p : ℕ) → 1 ≤ p → p ≤ shape.pages → 
 index_few shape p first last = omega (arith, first, last)
 
 -- one count of a page that was well formed
-sets_count : (shape : ShapeView) (old new : Block) (p n : ℕ) → 1 ≤ p → p ≤ shape.pages → n ≤ 2147483647 → is_formed shape (count_page shape p) old ≡ true → counts.SetsCount shape old p n new
+pub sets_count : (shape : ShapeView) (old new : Block) (p n : ℕ) → 1 ≤ p → p ≤ shape.pages → n ≤ 2147483647 → is_formed shape (count_page shape p) old ≡ true → counts.SetsCount shape old p n new
     → SetsCount (lay_of shape) old new p n
 sets_count shape old new p n first last few was s = record {
   here = s.here;

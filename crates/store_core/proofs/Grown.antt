@@ -1,5 +1,5 @@
 -- Marks, edges and room, as edits take of them.
-use Rattle.std.proofs.Common.{arith, ◌≡◌, inl, inr, ◌≤◌, ◌+◌, ◌-◌, ℕ, Bool, true, false, cond, ◌&&◌, ◌||◌, refl, sym, ap, ◌∙◌, subst, List, eqb, eqb-true, eq-eqb}
+use Rattle.std.proofs.Common.{arith, ◌≡◌, inl, inr, ◌≤◌, ◌+◌, ◌-◌, ℕ, Bool, true, false, cond, ◌&&◌, ◌||◌, not, refl, sym, ap, ◌∙◌, subst, List, eqb, eqb-true, eq-eqb}
 use Rattle.std.proofs.lemmas.Bool.{and_parts, or_cases, or_left}
 use Rattle.dep_graph.specs.Lists.{GraphLists, barred_in, dirty_in, entered, hung_in, live_in, node_count}
 use Rattle.dep_graph.specs.Pages.{holds}
@@ -11,7 +11,7 @@ use Rattle.store_core.specs.Applied.{GrowsInto, MapOrdered, Takes}
 use Rattle.store_core.specs.Edits.{Barred}
 
 pub grows_none : (page : ℕ) (g : GraphLists) → GrowsInto page g g
-grows_none page g = record { dirty = λ a h. h; hung = λ a. refl; live = λ a b h. h; barred = λ a b h. h; into = λ a b h. inl h }
+grows_none page g = record { dirty = λ a h. h; hung = λ a. refl; live = λ a b h. h; barred = λ a b h. h; into = λ a b h. inl h; barred_into = λ a b h. inl h }
 
 pub grows_then : (page : ℕ) (f g h : GraphLists) → GrowsInto page f g → GrowsInto page g h → GrowsInto page f h
 grows_then page f g h x y = record {
@@ -20,6 +20,7 @@ grows_then page f g h x y = record {
   live = λ a b e. y.live a b (x.live a b e);
   barred = λ a b e. y.barred a b (x.barred a b e);
   into = λ a b e. elim (y.into a b e) [ inl was ↦ x.into a b was | inr is ↦ inr is ];
+  barred_into = λ a b e. elim (y.barred_into a b e) [ inl was ↦ x.barred_into a b was | inr is ↦ inr is ];
 }
 
 pub grows_touched : (page at : ℕ) (g h : GraphLists) → h ≡ entered at g → GrowsInto page g h
@@ -29,6 +30,7 @@ grows_touched page at g h is = subst (λ (x : GraphLists). GrowsInto page g x) (
   live = λ a b e. e;
   barred = λ a b e. e;
   into = λ a b e. inl e;
+  barred_into = λ a b e. inl e;
 })
 
 pub grows_ordered : (before after : ℕ) (g h : GraphLists) → Ordered before after g h → GrowsInto after g h
@@ -41,6 +43,10 @@ grows_ordered before after g h o = record {
     | inl was ↦ inl was
     | inr new ↦ inr (eqb-true b after (and_parts _ _ (and_parts _ _ new).1).1)
   ];
+  barred_into = λ a b e. elim (or_cases (barred_in g a b) ((not (dirty_in g before) && hung_in g before) && (eqb a before && eqb b after)) (sym (o.barred a b) ∙ e)) [
+    | inl was ↦ inl was
+    | inr new ↦ inr (eqb-true b after (and_parts _ _ (and_parts _ _ new).1).1)
+  ];
 }
 
 pub grows_barred : (before after : ℕ) (g h : GraphLists) → Barred before after g h → GrowsInto after g h
@@ -50,6 +56,10 @@ grows_barred before after g h o = record {
   live = λ a b e. o.live a b ∙ e;
   barred = λ a b e. o.barred a b ∙ or_left _ _ e;
   into = λ a b e. inl (sym (o.live a b) ∙ e);
+  barred_into = λ a b e. elim (or_cases (barred_in g a b) (hung_in g before && (eqb a before && eqb b after)) (sym (o.barred a b) ∙ e)) [
+    | inl was ↦ inl was
+    | inr new ↦ inr (eqb-true b after (and_parts _ _ (and_parts _ _ new).1).1)
+  ];
 }
 
 -- room

@@ -23,6 +23,10 @@ pub mod FreePages
 pub mod GivenUp
 pub mod Grown
 pub mod AppliedStands
+pub mod Moved
 pub mod Alike
+pub mod AppliedLaws
+pub mod Released
+pub mod MomentStands
 pub mod Reserved
 pub mod Totaled

@@ -32,7 +32,7 @@ index_few : (shape : ShapeView) (p : ℕ) → 1 ≤ p → p ≤ shape.pages → 
 index_few shape p first last = omega (arith, first, last)
 
 -- a print of a page that was well formed
-sets_print : (shape : ShapeView) (old new : Block) (p : ℕ) (print : Option (List ℕ)) → 1 ≤ p → p ≤ shape.pages → is_formed shape (print_page shape p) old ≡ true → entries.SetsPrint old (print_place p) print new
+pub sets_print : (shape : ShapeView) (old new : Block) (p : ℕ) (print : Option (List ℕ)) → 1 ≤ p → p ≤ shape.pages → is_formed shape (print_page shape p) old ≡ true → entries.SetsPrint old (print_place p) print new
     → SetsPrint (lay_of shape) old new p print
 sets_print shape old new p print first last was s = record {
   here = s.entry;

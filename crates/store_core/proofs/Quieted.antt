@@ -5,27 +5,34 @@ use Rattle.std.proofs.lemmas.Bool.{cases_eq, cases_Bool}
 use Rattle.page_device.specs.Block.{Block}
 use Rattle.page_device.specs.Meaning.{Meaning}
 use Rattle.page_device.specs.Gains.{gains_none}
-use Rattle.page_layout.specs.Shape.{total}
+use Rattle.page_layout.specs.Shape.{total, ShapeView}
+use Rattle.page_layout.specs.Formed.{is_formed}
 use Rattle.page_cache.specs.View as cached
 use Rattle.page_cache.specs.View.{CacheView, content_in, holds_in, in_table, is_recent, is_there}
 use Rattle.page_cache.specs.Calls.{Held, Same as SameCache, Unheld}
+use Rattle.order_model.specs.declared.Slot.{Slot}
 use Rattle.order_model.specs.Edges.{Edge}
+use Rattle.order_model.specs.World.{IsData, World}
 use Rattle.dep_graph.specs.Lists.{GraphLists, barred_in, dirty_in, live_in, node_count}
 use Rattle.dep_graph.specs.Pages.{holds}
 use Rattle.page_alloc.specs.Pool.{told_of}
-use Rattle.birth_marks.specs.Births.{BirthsView, Same}
+use Rattle.birth_marks.specs.Births.{BirthsView, Remembers, Same, recorded_in, value_in}
 use Rattle.birth_marks.proofs.CallLemmas.{same_remembered}
+use Rattle.engine_model.specs.Births.{IsSlot, cached_value}
 use Rattle.engine_model.specs.Disk.{newest_on}
+use Rattle.engine_model.specs.Entries.{IsTable}
+use Rattle.engine_model.specs.Invariant.{Moment}
 use Rattle.engine_model.proofs.Same.{same_is}
 use Rattle.flush_engine.specs.View.{EngineView}
 use Rattle.store_core.specs.declared.Core.{Core}
 use Rattle.store_core.specs.declared.ledger.Ledger.{Ledger}
-use Rattle.store_core.specs.Layout.{place_of}
+use Rattle.store_core.specs.Layout.{lay_of, place_of}
 use Rattle.store_core.specs.Views.{IsKnown, IsOver, held_or, world_in, world_of}
 use Rattle.store_core.specs.Whole.{IsWhole}
 use Rattle.store_core.specs.Stands.{EndsDone, IsFit, Passes, StandsFor}
 use Rattle.store_core.specs.Quiet.{Flows, GivesBack, Quiet, SameCached, SameGraph, SameReleases, SameRest, none, once}
 use Rattle.store_core.proofs.Calls.{counts_none, no_moment}
+use Rattle.store_core.specs.Moments.{AreStaged, IsMomentOf}
 use Rattle.store_core.proofs.Clean.{over}
 use Rattle.store_core.proofs.Flowed.{room_then, same_room, table_held}
 use Rattle.store_core.proofs.Stood.{images_fit, passes_same, passes_then, stands_then}
@@ -152,6 +159,7 @@ pub back_then : (m n : ℕ → ℕ) (a b c : Core) → GivesBack m a b → Gives
 back_then m n a b c h k = record {
   passes = λ d. passes_then d d d a b c (h.passes d) (k.passes d);
   cached = λ d. cached_then d d d a b c (h.passes d) (h.cached d) (k.cached d);
+  moments = λ d m is. k.moments d m (h.moments d m is);
   rest = rest_then a b c h.rest k.rest;
   holds = λ q. omega (arith, h.holds q, k.holds q);
   held = λ q p. k.held q p ∙ h.held q (omega (arith, p, k.holds q));
@@ -225,18 +233,37 @@ held_less q page was now e some = elim (cases_eq q page) [
   | inr ne ↦ let zero : once page q ≡ 0 = rw (ne_eqb q page ne) refl in omega (arith, e, zero)
 ]
 
-less_cached : (old new : Core) (page : ℕ) → Unheld old.engine.cache new.engine.cache page → (d : Meaning) → IsOver d old
+-- what may go is cached as the device has it
+unheld_contents : (d : Meaning) (old new : Core) (page : ℕ) → Unheld old.engine.cache new.engine.cache page → ((a : ℕ) → dirty_in old.engine.graph a ≡ false → (world_of d old).cached a ≡ newest_on d.state a)
     → (q : ℕ) → held_or (content_in new.engine.cache q) (newest_on d.state q) ≡ held_or (content_in old.engine.cache q) (newest_on d.state q)
-less_cached old new page u d is_over q = elim (cases_Bool (dirty_in old.engine.graph q)) [
+unheld_contents d old new page u clean q = elim (cases_Bool (dirty_in old.engine.graph q)) [
   | inl is ↦ ap (λ (o : Option Block). held_or o (newest_on d.state q)) (u.kept q (table_dirty new.engine.cache q (u.dirty q ∙ old.whole.engine_whole.dirty q ∙ is)))
   | inr off ↦ ap (λ (o : Option Block). held_or o (newest_on d.state q)) (u.content q)
-      ∙ dropped_or_not (in_table new.engine.cache q || is_recent new.engine.cache q) (content_in old.engine.cache q) (newest_on d.state q) (is_over.clean q off)
+      ∙ dropped_or_not (in_table new.engine.cache q || is_recent new.engine.cache q) (content_in old.engine.cache q) (newest_on d.state q) (clean q off)
 ]
+
+-- the same moment, where the plain state is the same
+pub same_moment : (d : Meaning) (old new : Core) → SameRest old new → world_of d new ≡ world_of d old → (m : Moment) → IsMomentOf d old m → IsMomentOf d new m
+same_moment d old new rest world m is =
+    let births = rest.births in
+    let pool : (p : ℕ) → IsData (lay_of old.shape) p → told_of new.ledger.pool p ≡ m.pool p = λ p kind. ap (λ q. told_of q p) rest.pool ∙ is.pool p kind in
+    record {
+      world = world ∙ is.world;
+      births = subst (λ (x : ShapeView). Remembers (place_of x) new.ledger.births m.calls) (sym rest.shape) (same_remembered (place_of old.shape) old.ledger.births new.ledger.births m.calls is.births births);
+      values = subst (λ (x : ShapeView). (s : Slot) → IsSlot (lay_of x) s → recorded_in new.ledger.births s ≡ true → value_in new.ledger.births s ≡ cached_value (lay_of x) m.world s) (sym rest.shape)
+          (λ s slot rec. births.slots.value s ∙ is.values s slot (sym (births.slots.recorded s) ∙ rec));
+      pool = subst (λ (x : ShapeView). (p : ℕ) → IsData (lay_of x) p → told_of new.ledger.pool p ≡ m.pool p) (sym rest.shape) pool;
+      formed = subst (λ (x : ShapeView). (page : ℕ) → IsTable (lay_of x) page → is_formed x page (m.world.cached page) ≡ true) (sym rest.shape) is.formed;
+      staged = subst (λ (x : ShapeView). AreStaged (lay_of x) m.world) (sym rest.shape) is.staged;
+      clean = is.clean;
+    }
 
 pub gives_back : (old new : Core) (page : ℕ) → 0 < holds_in old.engine.cache page → SameRest old new → Unheld old.engine.cache new.engine.cache page → GivesBack (once page) old new
 gives_back old new page some rest u = record {
-  passes = λ d. still_passes d old new rest u.numbers.calls (less_cached old new page u d);
-  cached = λ d. still_cached d old new (less_cached old new page u d);
+  passes = λ d. still_passes d old new rest u.numbers.calls (λ is_over. unheld_contents d old new page u is_over.clean);
+  cached = λ d. still_cached d old new (λ is_over. unheld_contents d old new page u is_over.clean);
+  moments = λ d m is. same_moment d old new rest
+      (rest_world d d old new rest refl (unheld_contents d old new page u (λ a off. ap (λ (w : World). w.cached a) is.world ∙ is.clean a (ap (λ (w : World). w.dirty a) (sym is.world) ∙ off) ∙ ap (λ (w : World). w.newest a) (sym is.world)))) m is;
   rest = rest;
   holds = λ q. held_less q page (holds_in old.engine.cache q) (holds_in new.engine.cache q) (u.holds q) (λ z. subst (λ x. 0 < holds_in old.engine.cache x) (sym z) some);
   held = λ q h. u.kept q (table_held new.engine.cache q h);

@@ -8,7 +8,7 @@ use Rattle.page_alloc.specs.Pool.{IsTold, told_of}
 use Rattle.ref_counts.specs.Counts.{SetsCount, count_in}
 use Rattle.logical_map.specs.Slots.{SetsSlot, slot_of}
 use Rattle.order_model.specs.declared.Slot.TheVariants.{Name}
-use Rattle.birth_marks.specs.Births.{Changed, PlacedAt, is_unborn_in, recorded_in, value_in}
+use Rattle.birth_marks.specs.Births.{Changed, PlacedAt, SameBut, is_unborn_in, recorded_in, value_in}
 use Rattle.release_queue.specs.declared.Release.{Release}
 use Rattle.release_queue.specs.declared.TheConstants.{NOT_WRITTEN, UNBORN}
 use Rattle.order_model.specs.World as plain
@@ -78,7 +78,7 @@ named_in core block = slot_of (page_in core (map_page block)) block
 abbrev pub is_name_unborn : Core → ℕ → Bool
 is_name_unborn core block = is_unborn_in core.ledger.births (Name block) (named_in core block)
 
--- The block has the name p, and the release of the old one is pushed. What births know is said where they knew the old name; where slots stand is said in any case.
+-- The block has the name p, and the release of the old one is pushed. What births know is said where they knew the old name; where slots stand, and of the other slots, is said in any case.
 pub record NamesBlock (block p : ℕ) (old new : Core) : Type 0 where
   pub page : Block
   pub sets : SetsSlot old.shape (page_in old (map_page block)) block p page
@@ -89,6 +89,7 @@ pub record NamesBlock (block p : ℕ) (old new : Core) : Type 0 where
   pub births : (recorded_in old.ledger.births (Name block) ≡ true → value_in old.ledger.births (Name block) ≡ named_in old block)
       → Changed old.ledger.births new.ledger.births (Name block) (map_page block) (named_in old block) p
   pub placed : PlacedAt old.ledger.births new.ledger.births (Name block) (map_page block)
+  pub other_slots : SameBut (Name block) old.ledger.births new.ledger.births
   pub spare : new.ledger.births.spare ≡ old.ledger.births.spare - 1
   pub ledger : new.ledger ≡ record old.ledger {
     queue = record old.ledger.queue { releases = owed old.shape (is_name_unborn old block) block (named_in old block) old.ledger.queue.releases };

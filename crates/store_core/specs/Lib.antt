@@ -10,6 +10,7 @@ pub mod Counted
 pub mod Named
 pub mod Printed
 pub mod Placed
+pub mod Moments
 pub mod Applied
 pub mod Quiet
 pub mod Room

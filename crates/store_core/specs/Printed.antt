@@ -6,7 +6,7 @@ use Rattle.page_layout.specs.Entries.{SetsPrint}
 use Rattle.page_layout.specs.Shape.{print_page, print_place}
 use Rattle.order_model.specs.declared.Slot.TheVariants.{Print}
 use Rattle.order_model.specs.World.{Possible}
-use Rattle.birth_marks.specs.Births.{Changed, PlacedAt, is_unborn_in, recorded_in, value_in}
+use Rattle.birth_marks.specs.Births.{Changed, PlacedAt, SameBut, is_unborn_in, recorded_in, value_in}
 use Rattle.engine_model.specs.Births.{has_print}
 use Rattle.engine_model.specs.Edits.{Ordered}
 use Rattle.engine_model.specs.Entries.{cached_count, cached_print}
@@ -23,7 +23,7 @@ abbrev pub had_print : Option (List ℕ) → ℕ
 had_print None = 1
 had_print (Some print) = 0
 
--- The page has this print, or none. What births know is said where they knew that it had none, or one; where slots stand is said in any case.
+-- The page has this print, or none. What births know is said where they knew that it had none, or one; where slots stand, and of the other slots, is said in any case.
 pub record PrintsPage (p : ℕ) (print : Option (List ℕ)) (old new : Core) : Type 0 where
   pub page : Block
   pub sets : SetsPrint (page_in old (print_page old.shape p)) (print_place p) print page
@@ -32,6 +32,7 @@ pub record PrintsPage (p : ℕ) (print : Option (List ℕ)) (old new : Core) : T
   pub births : (recorded_in old.ledger.births (Print p) ≡ true → value_in old.ledger.births (Print p) ≡ had_print print)
       → Changed old.ledger.births new.ledger.births (Print p) (print_page old.shape p) (had_print print) (has_print print)
   pub placed : PlacedAt old.ledger.births new.ledger.births (Print p) (print_page old.shape p)
+  pub other_slots : SameBut (Print p) old.ledger.births new.ledger.births
   pub spare : new.ledger.births.spare ≡ old.ledger.births.spare - 1
   pub ledger : new.ledger ≡ record old.ledger { births = new.ledger.births }
 

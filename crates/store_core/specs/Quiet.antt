@@ -11,6 +11,7 @@ use Rattle.birth_marks.specs.Births.{Same, recorded_in}
 use Rattle.store_core.specs.declared.Core.{Core}
 use Rattle.store_core.specs.Stands.{Passes, StandsFor}
 use Rattle.store_core.specs.Views.{world_of}
+use Rattle.store_core.specs.Moments.{KeepsMoments}
 
 -- no page, and one
 abbrev pub none : ℕ → ℕ
@@ -76,10 +77,11 @@ pub record Quiet (more : ℕ → ℕ) (d e : Meaning) (old new : Core) : Type 0 
   pub holds : (q : ℕ) → holds_in new.engine.cache q ≡ holds_in old.engine.cache q + more q
   pub held : (q : ℕ) → 0 < holds_in old.engine.cache q → content_in new.engine.cache q ≡ content_in old.engine.cache q
 
--- So many holds were given back, and what is held still is as it was.
+-- So many holds were given back, and what is held still is as it was. Each moment that the core was it is still.
 pub record GivesBack (less : ℕ → ℕ) (old new : Core) : Type 0 where
   pub passes : (d : Meaning) → Passes d d old new
   pub cached : (d : Meaning) → SameCached d d old new
+  pub moments : KeepsMoments old new
   pub rest : SameRest old new
   pub holds : (q : ℕ) → holds_in old.engine.cache q ≡ holds_in new.engine.cache q + less q
   pub held : (q : ℕ) → 0 < holds_in new.engine.cache q → content_in new.engine.cache q ≡ content_in old.engine.cache q

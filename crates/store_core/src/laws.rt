@@ -10,6 +10,10 @@ ghost use Rattle.dep_graph.specs.Lists.{is_node};
 ghost use Rattle.array_model.specs.Images.{IsGood, block_of};
 ghost use Rattle.engine_model.specs.Contents.{Last};
 ghost use Rattle.store_core.specs.declared.Core.{Core};
+ghost use Rattle.engine_model.specs.Invariant.{EngineInvariant, Moment};
+ghost use Rattle.store_core.specs.Frames.{KeepsStands};
+ghost use Rattle.store_core.specs.Layout.{lay_of, top};
+ghost use Rattle.store_core.specs.Moments.{IsMomentOf, Moves};
 ghost use Rattle.store_core.specs.Weaker.{Extends, mode_of};
 ghost use Rattle.store_core.specs.Stands.{IsFit, StandsFor};
 
@@ -36,4 +40,17 @@ pub fn weaker()
 pub fn settled()
     ensures { (sound : Bool) (d : Meaning) (core : Core) (array : ℕ → List Block) (image : List Block) → StandsFor sound d core array → ((a : ℕ) → is_node core.engine.graph a ≡ false) → IsImage d.state image
         → (l : ℕ) → l < core.shape.blocks → (c : Block) → Last (array l) c → block_of image l ≡ c }
+{}
+
+/// A core that stands for an array is a moment of the laws over it. And whatever moment of the same shape a later core is that keeps
+/// the engine invariant, it stands for the array of that moment.
+pub fn moments_stand()
+    ensures moment { (sound : Bool) (d : Meaning) (core : Core) (array : ℕ → List Block) → StandsFor sound d core array → (m : Moment) × IsMomentOf d core m × (m.array ≡ array) × EngineInvariant (lay_of core.shape) top sound m }
+    ensures stands { (sound : Bool) (d : Meaning) (old new : Core) (array : ℕ → List Block) (m : Moment) → StandsFor sound d old array → new.shape ≡ old.shape → IsMomentOf d new m → EngineInvariant (lay_of old.shape) top sound m → StandsFor sound d new m.array }
+{}
+
+/// Where a step of the laws that keeps the engine invariant leads from each moment that a core was to one that it is, the same arrays
+/// stand.
+pub fn moves_stand()
+    ensures { (old new : Core) → new.shape ≡ old.shape → Moves (λ m n. (sound : Bool) → EngineInvariant (lay_of old.shape) top sound m → EngineInvariant (lay_of old.shape) top sound n) old new → KeepsStands old new }
 {}

@@ -25,7 +25,7 @@ mod waves;
 
 pub use blocking::blocked_alike;
 use flush_engine::Engine;
-pub use laws::{image_is_good, images_are_fit, settled, weaker};
+pub use laws::{image_is_good, images_are_fit, moments_stand, moves_stand, settled, weaker};
 pub use ledger::Ledger;
 use page_layout::Shape;
 pub use placing::given_page_is_free;

@@ -1,11 +1,12 @@
-use Rattle.std.proofs.Common.{◌≡◌, ◌<◌, ◌∙◌, ◌&&◌, not, sym, ap, subst, ℕ, Bool, true, eq-eqb, is_some}
+use Rattle.std.proofs.Common.{◌≡◌, ◌<◌, ◌∙◌, ◌&&◌, not, sym, ap, subst, ℕ, Bool, true, None, eqb, eq-eqb, ne_eqb, is_some}
 use Rattle.page_layout.specs.Shape.{print_place}
 use Rattle.page_layout.specs.Tables.{print_entry_of}
 use Rattle.page_cache.specs.View.{holds_in}
 use Rattle.ref_counts.specs.Counts.{count_in}
 use Rattle.store_core.specs.Views.{page_in}
 use Rattle.store_core.specs.Applied.{count_of_release, has_print_of, is_print_unborn}
-use Rattle.store_core.proofs.AppliedStands.{clears_none}
+use Rattle.store_core.proofs.AppliedLaws.{none_cleared, stays_cleared}
+use Rattle.store_core.proofs.AppliedStands.{clears_none, never_both}
 use Rattle.store_core.proofs.Edited.{held_there}
 use Rattle.store_core.proofs.Core.clear_last_print.Goals as goal
 
@@ -42,13 +43,33 @@ clear_print-requires-clause-opens c unborn closes =
     c.requires.opens (ap (λ (b : Bool). b && (has_print_of core r && not (is_print_unborn core r))) (eq-eqb (count_of_release core r) 1 one) ∙ ap (λ (b : Bool). b && not (is_print_unborn core r)) had ∙ ap not unborn) closes
 
 pub returns-then-count-ne1-clause-cleared : goal.returns-then-count-ne1-clause-cleared
-returns-then-count-ne1-clause-cleared c = clears_none c.args.self.now c.args.release (λ one. absurd (c.if-count-ne1.true (c.count_of-count.ensures ∙ sym (ap (λ (n : ℕ). count_in (page_in c.args.self.now n) c.args.release.page) c.requires.placed.count_at) ∙ one)))
+returns-then-count-ne1-clause-cleared c =
+    let core = c.args.self.now in
+    let r = c.args.release in
+    let more : count_of_release core r ≡ 1 → ⊥ = λ one. c.if-count-ne1.true (c.count_of-count.ensures ∙ sym (ap (λ (n : ℕ). count_in (page_in core n) r.page) c.requires.placed.count_at) ∙ one) in
+    clears_none core r (λ one. absurd (more one)) (ap (λ (b : Bool). b && has_print_of core r) (ne_eqb (count_of_release core r) 1 more))
+
+pub returns-then-count-ne1-clause-laws : goal.returns-then-count-ne1-clause-laws
+returns-then-count-ne1-clause-laws c =
+    let core = c.args.self.now in
+    let r = c.args.release in
+    stays_cleared core r c.requires.placed c.requires.count_held (λ one. c.if-count-ne1.true (c.count_of-count.ensures ∙ sym (ap (λ (n : ℕ). count_in (page_in core n) r.page) c.requires.placed.count_at) ∙ one))
 
 pub returns-then-count-ne1-clause-stands : goal.returns-then-count-ne1-clause-stands
 returns-then-count-ne1-clause-stands c = λ sound d array s. s
 
 pub returns-in-None-clause-cleared : goal.returns-in-None-clause-cleared
-returns-in-None-clause-cleared c = clears_none c.args.self.now c.args.release (λ one. ap (λ (n : ℕ). print_entry_of (page_in c.args.self.now n) (print_place c.args.release.page)) c.requires.placed.print_at ∙ sym c.in-None.ensures)
+returns-in-None-clause-cleared c =
+    let core = c.args.self.now in
+    let r = c.args.release in
+    let none : print_entry_of (page_in core r.print_at) (print_place r.page) ≡ None = ap (λ (n : ℕ). print_entry_of (page_in core n) (print_place r.page)) c.requires.placed.print_at ∙ sym c.in-None.ensures in
+    clears_none core r (λ one. none) (never_both (eqb (count_of_release core r) 1) (has_print_of core r) (ap is_some none))
+
+pub returns-in-None-clause-laws : goal.returns-in-None-clause-laws
+returns-in-None-clause-laws c =
+    let core = c.args.self.now in
+    let r = c.args.release in
+    none_cleared core r c.requires.placed c.requires.held (ap (λ (n : ℕ). print_entry_of (page_in core n) (print_place r.page)) c.requires.placed.print_at ∙ sym c.in-None.ensures)
 
 pub returns-in-None-clause-stands : goal.returns-in-None-clause-stands
 returns-in-None-clause-stands c = λ sound d array s. s

@@ -10,7 +10,9 @@ use Rattle.birth_marks.specs.Births.{is_unborn_in}
 use Rattle.store_core.specs.declared.ledger.Ledger.{Ledger}
 use Rattle.store_core.specs.Views.{held_or}
 use Rattle.store_core.specs.Whole.{IsPlaced}
+use Rattle.store_core.proofs.AppliedLaws.{print_cleared, print_ordered}
 use Rattle.store_core.proofs.AppliedStands.{clear_stands, clears_print, print_table}
+use Rattle.store_core.proofs.Edited.{held_there}
 use Rattle.store_core.proofs.Core.clear_print.Goals as goal
 
 pub order_print-requires-clause-placed : goal.order_print-requires-clause-placed
@@ -53,8 +55,9 @@ pub set_print-requires-clause-spare : goal.set_print-requires-clause-spare
 set_print-requires-clause-spare c = subst (λ (l : Ledger). 0 < l.births.spare) (sym (c.order_print.ensures.rest.ledger ∙ c.touch.ensures.rest.ledger)) c.requires.changes
 
 pub returns-clause-cleared : goal.returns-clause-cleared
-returns-clause-cleared c = clears_print c.args.self.now c.touch.new.self c.order_print.new.self c.set_print.new.self c.args.release c.requires.placed c.requires.one
+returns-clause-cleared c = clears_print c.args.self.now c.touch.new.self c.order_print.new.self c.set_print.new.self c.args.release c.requires.placed c.requires.one c.requires.had
     c.touch.ensures.graph c.touch.ensures.same c.touch.ensures.pages c.touch.ensures.rest c.touch.ensures.nodes c.touch.ensures.spare_nodes
+    c.touch.ensures.tallies c.order_print.ensures.dirty c.order_print.ensures.tallies
     c.order_print.ensures.grows c.order_print.ensures.takes c.order_print.ensures.cache c.order_print.ensures.rest c.set_print.ensures.printed
 
 pub returns-clause-stands : goal.returns-clause-stands
@@ -67,3 +70,14 @@ returns-clause-stands c =
     clear_stands c.args.self.now c.order_print.new.self c.set_print.new.self r c.requires.placed (omega (arith, is, some)) (ap (λ (k : CacheView). held_or (content_in k r.print_at) zero_block) o.cache ∙ t.pages r.print_at) (o.rest.shape ∙ t.rest.shape) c.requires.had
     (elim o.ordered [ inl edge ↦ inl edge | inr unborn ↦ inr (ap (λ (l : Ledger). is_unborn_in l.births (Print r.page) 1) o.rest.ledger ∙ unborn) ])
     (λ sound d array s. o.stands sound d array (t.stands (print_table c.args.self.now.shape r c.requires.placed) sound d array s)) c.set_print.ensures.stands
+
+pub returns-clause-laws : goal.returns-clause-laws
+returns-clause-laws c =
+    let core = c.args.self.now in
+    let r = c.args.release in
+    let t = c.touch.ensures in
+    let o = c.order_print.ensures in
+    let is = ap (λ (k : CacheView). holds_in k r.print_at) o.cache ∙ t.same.holds r.print_at in
+    let some = c.requires.held in
+    print_cleared core c.order_print.new.self c.set_print.new.self r c.requires.placed (o.rest.shape ∙ t.rest.shape) (o.rest.ledger ∙ t.rest.ledger) c.requires.count_held some
+    (held_there c.order_print.new.self.engine.cache r.print_at (omega (arith, is, some))) (o.grows.dirty r.print_at (t.dirty r.print_at ∙ or_right _ _ (eq-eqb r.print_at r.print_at refl))) c.requires.one c.requires.had (print_ordered core c.touch.new.self c.order_print.new.self r t.world t.rest.ledger o.world) c.set_print.ensures.printed

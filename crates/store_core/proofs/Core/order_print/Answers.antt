@@ -2,10 +2,20 @@ use Rattle.std.proofs.Common.{arith, refl, inl, inr, sym, ap, ◌∙◌}
 use Rattle.flush_engine.specs.View.{EngineView}
 use Rattle.store_core.proofs.AppliedStands.{print_kind}
 use Rattle.store_core.proofs.Grown.{grows_none, grows_ordered, now_ordered, takes_more, takes_none, takes_ordered}
+use Rattle.store_core.proofs.Moved.{unborn_edge, born_edge}
 use Rattle.store_core.proofs.Core.order_print.Goals as goal
 
 pub returns-then-unborn-clause-ordered : goal.returns-then-unborn-clause-ordered
 returns-then-unborn-clause-ordered c = inr (sym c.unborn-unborn.ensures ∙ c.if-unborn.true)
+
+pub returns-then-unborn-clause-world : goal.returns-then-unborn-clause-world
+returns-then-unborn-clause-world c = unborn_edge c.args.self.now c.args.release (sym c.unborn-unborn.ensures ∙ c.if-unborn.true)
+
+pub returns-then-unborn-clause-dirty : goal.returns-then-unborn-clause-dirty
+returns-then-unborn-clause-dirty c = refl
+
+pub returns-then-unborn-clause-tallies : goal.returns-then-unborn-clause-tallies
+returns-then-unborn-clause-tallies c = refl
 
 pub returns-then-unborn-clause-grows : goal.returns-then-unborn-clause-grows
 returns-then-unborn-clause-grows c = grows_none c.args.release.count_at c.args.self.now.engine.graph
@@ -24,6 +34,15 @@ order-requires-clause-opens c dirty closes = c.requires.opens (sym c.unborn-unbo
 
 pub returns-clause-ordered : goal.returns-clause-ordered
 returns-clause-ordered c = inl (now_ordered c.args.release.print_at c.args.release.count_at c.args.self.now.engine.graph c.order.new.self.engine.graph c.order.ensures.ordered c.requires.before)
+
+pub returns-clause-world : goal.returns-clause-world
+returns-clause-world c = born_edge c.args.self.now c.order.new.self c.args.release (sym c.unborn-unborn.ensures ∙ c.if-unborn.false) c.requires.before c.order.ensures.world
+
+pub returns-clause-dirty : goal.returns-clause-dirty
+returns-clause-dirty c = c.order.ensures.ordered.dirty
+
+pub returns-clause-tallies : goal.returns-clause-tallies
+returns-clause-tallies c = ap (λ (e : EngineView). e.tallies) c.order.ensures.others
 
 pub returns-clause-grows : goal.returns-clause-grows
 returns-clause-grows c = grows_ordered c.args.release.print_at c.args.release.count_at c.args.self.now.engine.graph c.order.new.self.engine.graph c.order.ensures.ordered

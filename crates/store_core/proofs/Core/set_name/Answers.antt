@@ -91,6 +91,7 @@ returns-then-old-ne0-clause-named c =
       births = λ value. subst (λ (n : ℕ). Changed core.ledger.births c.change.new.self (Name l) n o c.args.p) c.map_place-at.ensures.page
           (subst (λ (n : ℕ). Changed core.ledger.births c.change.new.self (Name l) c.map_place-at.result.0 n c.args.p) old_is (c.change.ensures.changed (λ r. value r ∙ sym old_is)));
       placed = subst (λ (n : ℕ). PlacedAt core.ledger.births c.change.new.self (Name l) n) c.map_place-at.ensures.page c.change.ensures.placed;
+      other_slots = c.change.ensures.others;
       spare = c.change.ensures.spare;
       ledger = ap (λ (q : QueueLists). record core.ledger { queue = q; births = c.change.new.self }) queue_is;
     }
@@ -117,6 +118,7 @@ returns-else-old-ne0-clause-named c =
       births = λ value. subst (λ (n : ℕ). Changed core.ledger.births c.change.new.self (Name l) n o c.args.p) c.map_place-at.ensures.page
           (subst (λ (n : ℕ). Changed core.ledger.births c.change.new.self (Name l) c.map_place-at.result.0 n c.args.p) old_is (c.change.ensures.changed (λ r. value r ∙ sym old_is)));
       placed = subst (λ (n : ℕ). PlacedAt core.ledger.births c.change.new.self (Name l) n) c.map_place-at.ensures.page c.change.ensures.placed;
+      other_slots = c.change.ensures.others;
       spare = c.change.ensures.spare;
       ledger = ap (λ (rs : List Release). record core.ledger { queue = record core.ledger.queue { releases = rs }; births = c.change.new.self }) queue_is;
     }

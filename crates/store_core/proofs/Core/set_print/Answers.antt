@@ -48,6 +48,7 @@ returns-clause-printed c =
           (subst (λ (n : ℕ). Changed core.ledger.births c.change.new.self (Print c.args.p) c.print_place-at.result.0 n (has_print c.args.print)) c.values-from.ensures.from
           (subst (λ (n : ℕ). Changed core.ledger.births c.change.new.self (Print c.args.p) c.print_place-at.result.0 c.values-from.result.0 n) c.values-from.ensures.to (c.change.ensures.changed (λ r. value r ∙ sym c.values-from.ensures.from))));
       placed = subst (λ (n : ℕ). PlacedAt core.ledger.births c.change.new.self (Print c.args.p) n) c.print_place-at.ensures.page c.change.ensures.placed;
+      other_slots = c.change.ensures.others;
       spare = c.change.ensures.spare;
       ledger = refl;
     }

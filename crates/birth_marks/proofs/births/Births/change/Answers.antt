@@ -8,7 +8,7 @@ use Rattle.birth_marks.specs.Births.{BirthsView, first_of, is_after, is_tried, m
 use Rattle.birth_marks.specs.declared.pages.Mark.{Mark}
 use Rattle.birth_marks.specs.Pages.{mark_of}
 use Rattle.birth_marks.proofs.KeptLemmas.{changed_linked}
-use Rattle.birth_marks.proofs.TableLemmas.{changed_behind, changed_is, placed_is}
+use Rattle.birth_marks.proofs.TableLemmas.{changed_behind, changed_is, others_same, placed_is}
 use Rattle.birth_marks.proofs.births.Births.change.Goals as goal
 
 abbrev before : goal.After-change → BirthsView
@@ -61,3 +61,7 @@ returns-clause-changed c value = rw (sym c.self.view_is)
 pub returns-clause-placed : goal.returns-clause-placed
 returns-clause-placed c = rw (sym c.self.view_is)
     (placed_is (before c) _ c.args.slot c.args.at c.args.from c.args.to c.self.inside.moment c.self.invariant.0 c.live-was.result (was_is c) (records_are c) _ (moments_are c) _ (last_is c) c.change.ensures.mark c.change.ensures.known)
+
+pub returns-clause-others : goal.returns-clause-others
+returns-clause-others c = rw (sym c.self.view_is)
+    (others_same (before c) _ c.args.slot c.args.at c.args.from c.args.to c.self.inside.moment c.self.invariant.0 c.live-was.result (was_is c) (records_are c) _ (moments_are c) _ (last_is c) c.change.ensures.mark c.change.ensures.known)
