@@ -30,3 +30,8 @@ pub mod Released
 pub mod MomentStands
 pub mod Reserved
 pub mod Totaled
+pub mod Owing
+pub mod Looks
+pub mod OrderMarks
+pub mod OrderlySteps
+pub mod OrderlyEdits

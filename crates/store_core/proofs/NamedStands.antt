@@ -42,7 +42,7 @@ index_few : (shape : ShapeView) (l : ℕ) → l < shape.blocks → l / 1024 < ma
 index_few shape l lt = omega (arith, lt)
 
 -- one slot of a page that was well formed
-sets_name : (shape : ShapeView) (old new : Block) (l p : ℕ) → l < shape.blocks → p ≤ shape.pages → is_formed shape (map_page l) old ≡ true → SetsSlot shape old l p new → SetsName (lay_of shape) old new l p
+pub sets_name : (shape : ShapeView) (old new : Block) (l p : ℕ) → l < shape.blocks → p ≤ shape.pages → is_formed shape (map_page l) old ≡ true → SetsSlot shape old l p new → SetsName (lay_of shape) old new l p
 sets_name shape old new l p lt few was s = record {
   here = s.here;
   other = λ k kt ne same. s.others k ne same;

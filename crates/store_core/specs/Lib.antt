@@ -17,3 +17,5 @@ pub mod Room
 pub mod Fetching
 pub mod Weaker
 pub mod Totals
+pub mod Owed
+pub mod Orderly

@@ -16,8 +16,10 @@ mod laws;
 mod ledger;
 mod marking;
 mod naming;
+mod orderly;
 mod placing;
 mod printing;
+mod provided;
 mod releasing;
 mod room;
 mod totals;
@@ -27,8 +29,14 @@ pub use blocking::blocked_alike;
 use flush_engine::Engine;
 pub use laws::{image_is_good, images_are_fit, moments_stand, moves_stand, settled, weaker};
 pub use ledger::Ledger;
+pub use orderly::{
+    but_for_none, data_is_orderly, entries_are_orderly, marks_are_orderly, quiet_is_orderly,
+};
 use page_layout::Shape;
 pub use placing::given_page_is_free;
+pub use provided::{
+    applied_is_provided, holds_move, owed_pages_are_held, reserved_is_enough, stays_provided,
+};
 pub use room::NoRoom;
 pub use totals::{Totals, stat_where_tight, steps_recount, totals_follow};
 

@@ -1,0 +1,69 @@
+// Marks, edges, queue and tables, over what leaves them in order.
+ghost use Rattle.std.specs.Prelude.{◌≡◌, ◌<◌, ◌≤◌, ℕ, List, Option, true, cond, map};
+ghost use Rattle.page_device.specs.Meaning.{Meaning};
+ghost use Rattle.page_layout.specs.Shape.{count_page, data_page, map_page, print_page};
+ghost use Rattle.page_cache.specs.View.{content_in, holds_in};
+ghost use Rattle.dep_graph.specs.Lists.{dirty_in, entered};
+ghost use Rattle.ref_counts.specs.Counts.{count_in};
+ghost use Rattle.release_queue.specs.Queued.{after_change};
+ghost use Rattle.flush_engine.specs.Edits.{GivenUp, Ordered};
+ghost use Rattle.engine_model.specs.Entries.{EdgeKind};
+ghost use Rattle.engine_model.specs.SmallSteps.{given_up, ordered_after, ordered_by_barrier, touched};
+ghost use Rattle.store_core.specs.declared.Core.{Core};
+ghost use Rattle.store_core.specs.Edits.{Barred, Makes, NamesBlock, RaisesCount, named_in};
+ghost use Rattle.store_core.specs.Frames.{OnlyEngine, SameHolds};
+ghost use Rattle.store_core.specs.Layout.{lay_of, top};
+ghost use Rattle.store_core.specs.Orderly.{AreFormed, IsOrderly, IsOrderlyBut, OnlyCame};
+ghost use Rattle.store_core.specs.Owed.{IsProvided};
+ghost use Rattle.store_core.specs.Printed.{PrintsPage};
+ghost use Rattle.store_core.specs.Quiet.{GivesBack, Quiet};
+ghost use Rattle.store_core.specs.Views.{page_in};
+
+/// A core that is in order is so but for the releases of any page. There is no page 0, so all that is kept but for its releases is
+/// kept of each release: the laws below are said but for one page, and serve with 0 where no release is left out.
+pub fn but_for_none()
+    ensures any { (p : ℕ) (core : Core) → IsOrderly core → IsOrderlyBut p core }
+    ensures all { (core : Core) → IsOrderlyBut 0 core → IsOrderly core }
+{}
+
+/// A core stays in order over what is quiet, and over what is given back, as long as what came in is well formed.
+pub fn quiet_is_orderly()
+    ensures quiet { (b : ℕ) (more : ℕ → ℕ) (d e : Meaning) (old new : Core) → IsProvided old → Quiet more d e old new → AreFormed new → IsOrderlyBut b old → IsOrderlyBut b new }
+    ensures back { (b : ℕ) (less : ℕ → ℕ) (old new : Core) → IsProvided new → GivesBack less old new → AreFormed new → IsOrderlyBut b old → IsOrderlyBut b new }
+{}
+
+/// And over a mark and an edge of an allowed kind.
+pub fn marks_are_orderly()
+    ensures touch { (b : ℕ) (old new : Core) (page : ℕ) → Makes (touched page) old new → new.engine.graph ≡ entered page old.engine.graph → OnlyEngine old new → SameHolds old new
+        → ((q : ℕ) → page_in new q ≡ page_in old q) → IsOrderlyBut b old → IsOrderlyBut b new }
+    ensures order { (b : ℕ) (old new : Core) (before after : ℕ) → Makes (ordered_after before after) old new → EdgeKind (lay_of old.shape) before after
+        → Ordered before after old.engine.graph new.engine.graph → new.engine ≡ record old.engine { graph = new.engine.graph } → OnlyEngine old new
+        → IsOrderlyBut b old → IsOrderlyBut b new }
+    ensures order_by_barrier { (b : ℕ) (old new : Core) (before after : ℕ) → Makes (λ w. cond (w.hung before) (ordered_by_barrier before after w) w) old new
+        → EdgeKind (lay_of old.shape) before after → Barred before after old.engine.graph new.engine.graph → new.engine ≡ record old.engine { graph = new.engine.graph }
+        → OnlyEngine old new → IsOrderlyBut b old → IsOrderlyBut b new }
+{}
+
+/// And over a data page that gets its content, which takes at most pages that nobody holds, or is given up.
+pub fn data_is_orderly()
+    ensures place { (b p : ℕ) (old new : Core) → 1 ≤ p → p ≤ old.shape.pages → OnlyEngine old new → IsProvided old → new.engine.graph ≡ entered (data_page old.shape p) old.engine.graph
+        → ((q : ℕ) → 0 < holds_in old.engine.cache q → content_in new.engine.cache q ≡ content_in old.engine.cache q) → OnlyCame (data_page old.shape p) old new
+        → IsOrderlyBut b old → IsOrderlyBut b new }
+    ensures give_up { (b p : ℕ) (old new : Core) → 1 ≤ p → p ≤ old.shape.pages → OnlyEngine old new → Makes (given_up (data_page old.shape p)) old new
+        → GivenUp (data_page old.shape p) old.engine new.engine → IsOrderlyBut b old → IsOrderlyBut b new }
+{}
+
+/// Where the count or the print of a page changes, a release of it that had to wait may be free to go: the core is in order but for
+/// its releases, until they are marked. A block that takes another name pushes a release that is marked.
+pub fn entries_are_orderly()
+    ensures raise { (p : ℕ) (old new : Core) → 1 ≤ p → p ≤ old.shape.pages → 0 < holds_in old.engine.cache (count_page old.shape p)
+        → count_in (page_in old (count_page old.shape p)) p < top → RaisesCount p old new → IsOrderlyBut p old → IsOrderlyBut p new }
+    ensures print { (p : ℕ) (old new : Core) → 1 ≤ p → p ≤ old.shape.pages → (print : Option (List ℕ)) → 0 < holds_in old.engine.cache (print_page old.shape p)
+        → PrintsPage p print old new → IsOrderlyBut p old → IsOrderlyBut p new }
+    ensures name { (b block p : ℕ) (old new : Core) → block < old.shape.blocks → 0 < holds_in old.engine.cache (map_page block)
+        → dirty_in old.engine.graph (map_page block) ≡ true → named_in old block ≤ old.shape.pages → p ≤ old.shape.pages → NamesBlock block p old new
+        → IsOrderlyBut b old → IsOrderlyBut b new }
+    ensures again { (p : ℕ) (old new : Core)
+        → new.ledger ≡ record old.ledger { queue = record old.ledger.queue { releases = map (after_change p) old.ledger.queue.releases } }
+        → new.shape ≡ old.shape → new.engine ≡ old.engine → Makes (λ w. w) old new → IsOrderlyBut p old → IsOrderly new }
+{}
