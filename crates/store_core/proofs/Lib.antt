@@ -8,6 +8,8 @@ pub mod Flowed
 pub mod Going
 pub mod Quieted
 pub mod Fetched
+pub mod Looked
+pub mod Undamaged
 pub mod Held
 pub mod Good
 pub mod Standing

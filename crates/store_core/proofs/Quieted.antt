@@ -96,7 +96,7 @@ rest_stands sound d e old new array s known pages rest world = stands_then sound
     (same_remembered (place_of old.shape) old.ledger.births new.ledger.births s.calls s.births rest.births) (λ p is. ap (λ q. told_of q p) rest.pool ∙ s.pool p is)
 
 -- no call of the device
-still_passes : (d : Meaning) (old new : Core) → SameRest old new
+pub still_passes : (d : Meaning) (old new : Core) → SameRest old new
     → (IsOver d old → (q : ℕ) → held_or (content_in new.engine.cache q) (newest_on d.state q) ≡ held_or (content_in old.engine.cache q) (newest_on d.state q)) → Passes d d old new
 still_passes d old new rest same = record {
   stands = λ sound array s. rest_stands sound d d old new array s s.known refl rest (rest_world d d old new rest refl (same (over sound d old array s)));

@@ -14,4 +14,5 @@ pub mod Applied
 pub mod Quiet
 pub mod Room
 pub mod Fetching
+pub mod Damaged
 pub mod Weaker

@@ -20,6 +20,7 @@ mod placing;
 mod printing;
 mod releasing;
 mod room;
+mod tables;
 mod waves;
 
 pub use blocking::blocked_alike;
@@ -29,6 +30,7 @@ pub use ledger::Ledger;
 use page_layout::Shape;
 pub use placing::given_page_is_free;
 pub use room::NoRoom;
+pub use tables::{TableError, tables_are_whole};
 
 /// What is kept between commands, but for the policy, the index of prints and the totals.
 #[derive(Drop)]

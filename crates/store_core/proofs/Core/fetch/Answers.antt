@@ -1,5 +1,5 @@
 use Rattle.std.proofs.Common.{refl}
-use Rattle.store_core.proofs.Fetched.{fetch_dirty, fetch_within, quiet_fetched}
+use Rattle.store_core.proofs.Fetched.{fetch_dirty, fetch_within, only_brings, quiet_fetched}
 use Rattle.store_core.proofs.Quieted.{rest_cache, whole_cache}
 use Rattle.store_core.proofs.Core.fetch.Goals as goal
 
@@ -21,3 +21,14 @@ returns-clause-quiet g c = quiet_fetched (g.D.Device.seen c.args.device.now) (g.
 
 pub returns-clause-there : goal.returns-clause-there
 returns-clause-there g c = c.fetch_page.ensures.fetches.now
+
+pub returns-clause-answer : goal.returns-clause-answer
+returns-clause-answer g c = c.fetch_page.ensures.fetches.answer
+
+pub returns-clause-newest : goal.returns-clause-newest
+returns-clause-newest g c = c.fetch_page.ensures.fetches.newest
+
+pub returns-clause-brings : goal.returns-clause-brings
+returns-clause-brings g c = record {
+  each = only_brings (g.D.Device.seen c.args.device.now) (g.D.Device.seen c.fetch_page.new.device) c.args.self.now.engine.cache c.fetch_page.new.engine.cache c.args.page c.fetch_page.result c.fetch_page.ensures.fetches;
+}
