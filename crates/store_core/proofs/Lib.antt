@@ -26,3 +26,7 @@ pub mod Grown
 pub mod AppliedStands
 pub mod Alike
 pub mod Reserved
+pub mod Owing
+pub mod Looks
+pub mod OrderMarks
+pub mod OrderlySteps

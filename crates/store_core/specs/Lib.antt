@@ -16,3 +16,5 @@ pub mod Room
 pub mod Fetching
 pub mod Damaged
 pub mod Weaker
+pub mod Owed
+pub mod Orderly

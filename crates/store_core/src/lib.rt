@@ -16,8 +16,10 @@ mod laws;
 mod ledger;
 mod marking;
 mod naming;
+mod orderly;
 mod placing;
 mod printing;
+mod provided;
 mod releasing;
 mod room;
 mod tables;
@@ -27,8 +29,12 @@ pub use blocking::blocked_alike;
 use flush_engine::Engine;
 pub use laws::{image_is_good, images_are_fit, settled, weaker};
 pub use ledger::Ledger;
+pub use orderly::quiet_is_orderly;
 use page_layout::Shape;
 pub use placing::given_page_is_free;
+pub use provided::{
+    applied_is_provided, holds_move, owed_pages_are_held, reserved_is_enough, stays_provided,
+};
 pub use room::NoRoom;
 pub use tables::{TableError, tables_are_whole};
 
