@@ -1,6 +1,6 @@
 -- A page that is fetched: a clean page comes in, and maybe another is dropped.
 use Rattle.std.proofs.Common.{arith, not, ◌+◌, ◌≡◌, ◌⊎◌, inl, inr, ◌<◌, ℕ, zero, suc, Bool, true, false, cond, refl, sym, ap, ◌∙◌, subst, List, [], ◌∷◌, Option, None, Ok, Err, Result, eqb, eqb-true, get_or, length, is_some}
-use Rattle.std.specs.Prelude.{slice_get}
+use Rattle.std.specs.Prelude.{slice_get, OnErr}
 use Rattle.std.proofs.lemmas.Bool.{cases_Bool}
 use Rattle.page_device.specs.Block.{Block}
 use Rattle.page_device.specs.Disk.{DeviceState, newest}
@@ -9,7 +9,7 @@ use Rattle.page_device.specs.Moments.{EachImage, Leaves, leaves_read, leaves_sta
 use Rattle.page_layout.specs.Shape.{ShapeView, total}
 use Rattle.page_cache.specs.View as cached
 use Rattle.page_cache.specs.View.{CacheView, content_in, holds_in, is_there}
-use Rattle.page_cache.specs.Calls.{Brought, FetchCall, SameMarks, is_dropped}
+use Rattle.page_cache.specs.Calls.{Brought, FetchCall, Same, SameMarks, is_dropped}
 use Rattle.page_cache.specs.declared.cache.FetchError.{FetchError}
 use Rattle.page_cache.specs.declared.cache.FetchError.TheVariants.{Device, NoMemory}
 use Rattle.dep_graph.specs.Lists.{dirty_in}
@@ -156,6 +156,11 @@ module _ (d e : Meaning) (old new : CacheView) (page : ℕ) where
 
   pub fetch_holds : (r : Result Bool FetchError) → Fetches page r d e old new → (q : ℕ) → holds_in new q ≡ holds_in old q
   fetch_holds r f = (fetch_marks r f).holds
+
+-- after an error the contents are as before
+pub fetch_kept : (old new : CacheView) (r : Result Bool FetchError) → OnErr r (Same old new) → OnErr r ((q : ℕ) → content_in new q ≡ content_in old q)
+fetch_kept old new (Ok read) err = tt
+fetch_kept old new (Err x) err = err.content
 
 pub quiet_fetched : (d e : Meaning) (old new : Core) (page : ℕ) (r : Result Bool FetchError) → Fetches page r d e old.engine.cache new.engine.cache → SameRest old new → Quiet none d e old new
 quiet_fetched d e old new page r f rest = record {

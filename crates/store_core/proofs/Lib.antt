@@ -12,6 +12,7 @@ pub mod Looked
 pub mod Undamaged
 pub mod Held
 pub mod Good
+pub mod OpenedStands
 pub mod Standing
 pub mod Edited
 pub mod Queued

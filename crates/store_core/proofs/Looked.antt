@@ -14,7 +14,7 @@ use Rattle.page_cache.specs.declared.cache.FetchError.{FetchError}
 use Rattle.page_cache.specs.declared.cache.FetchError.TheVariants as fetch
 use Rattle.page_cache.specs.declared.entries.Entry.{Entry}
 use Rattle.page_layout.specs.Entries.{IsEntry, IsFirstFault, IsTablePage, entries_of, table_at}
-use Rattle.page_layout.specs.Formed.{is_formed}
+use Rattle.page_layout.specs.Formed.{is_formed, is_formed_as}
 use Rattle.page_layout.specs.Shape.{ShapeView, first_data_page, total}
 use Rattle.page_layout.specs.declared.shape.Table.{Table}
 use Rattle.page_layout.proofs.Laws.{no_table}
@@ -24,10 +24,13 @@ use Rattle.store_core.specs.declared.Core.{Core}
 use Rattle.store_core.specs.declared.tables.TableError.{TableError}
 use Rattle.store_core.specs.declared.tables.TableError.TheVariants.{Device, NoMemory, Damaged}
 use Rattle.store_core.specs.Damaged.{HasTableCause, IsDamage, IsFirstMalformed, LooksOver, TableCall}
+use Rattle.store_core.specs.Fetching.{OnlyBrings}
+use Rattle.store_core.specs.Orderly.{KeepsFormed}
 use Rattle.store_core.specs.Quiet.{GivesBack, SameRest, none}
 use Rattle.store_core.specs.Views.{held_or, page_in}
 use Rattle.store_core.proofs.Clean.{dirty_there}
 use Rattle.store_core.proofs.Fetched.{not-true'}
+use Rattle.store_core.proofs.OrderlySteps.{formed_fewer}
 use Rattle.store_core.proofs.Quieted.{still_passes}
 
 -- a page that serves a table is one of the image
@@ -97,6 +100,7 @@ out_back old new page rest out clean free = record {
     | inl is ↦ absurd (no_hold q (eqb-true q page is) h)
     | inr ne ↦ out.content q ∙ ap (λ b. cond b None (content_in old.engine.cache q)) ne
   ];
+  stay = out_others old new.engine.cache page out;
 }
   where
     plus_none : (n : ℕ) → n ≡ n + 0
@@ -153,3 +157,19 @@ looked_damaged page damage d old mid new shape absent there newest_ at first gon
     found (Err Device) = damage
     found (Err NoMemory) = damage
     found (Err (Damaged x)) = x
+
+-- what is well formed stays so where a page came in that is, or none
+pub formed_brought : (page : ℕ) (old new : Core) → new.shape ≡ old.shape → OnlyBrings page old new → is_formed old.shape page (page_in new page) ≡ true → KeepsFormed old new
+formed_brought page old new shape brings here = λ was q there. elim (brings.each q there) [
+  | inl same ↦ subst (λ (s : ShapeView). is_formed s q (page_in new q) ≡ true) (sym shape)
+      (ap (λ (o : Option Block). is_formed old.shape q (held_or o zero_block)) same ∙ was q (ap is_some (sym same) ∙ there))
+  | inr came_in ↦ subst (λ (s : ShapeView). is_formed s q (page_in new q) ≡ true) (sym shape) (subst (λ n. is_formed old.shape n (page_in new n) ≡ true) (sym came_in.0) here)
+]
+
+-- a page that serves no table
+pub formed_else : (shape : ShapeView) (page : ℕ) (content : Block) → table_at shape page ≡ None → is_formed shape page content ≡ true
+unfolding is_formed
+formed_else shape page content none_ = ap (λ (o : Option Table). is_formed_as o shape page content) none_
+
+pub formed_then : (a b c : Core) → c.shape ≡ b.shape → ((q : ℕ) → content_in c.engine.cache q ≡ content_in b.engine.cache q) → KeepsFormed a b → KeepsFormed a c
+formed_then a b c shape same keeps = λ was. formed_fewer b c shape (λ q there. same q) (keeps was)

@@ -137,6 +137,7 @@ back_then m n a b c h k = record {
   rest = rest_then a b c h.rest k.rest;
   holds = λ q. omega (arith, h.holds q, k.holds q);
   held = λ q p. k.held q p ∙ h.held q (omega (arith, p, k.holds q));
+  stay = λ q there. k.stay q there ∙ h.stay q (ap is_some (sym (k.stay q there)) ∙ there);
 }
 
 pub quiet_back : (m : ℕ → ℕ) (d e : Meaning) (a b c : Core) → Quiet m d e a b → GivesBack m b c → Quiet none d e a c
@@ -210,7 +211,12 @@ gives_back old new page some rest u = record {
   rest = rest;
   holds = λ q. held_less q page (holds_in old.engine.cache q) (holds_in new.engine.cache q) (u.holds q) (λ z. subst (λ x. 0 < holds_in old.engine.cache x) (sym z) some);
   held = λ q h. u.kept q (table_held new.engine.cache q h);
+  stay = λ q there. u.content q ∙ cond_some (in_table new.engine.cache q || is_recent new.engine.cache q) (content_in old.engine.cache q) (ap is_some (sym (u.content q)) ∙ there);
 }
+  where
+    cond_some : (b : Bool) (o : Option Block) → is_some (cond b o None) ≡ true → cond b o None ≡ o
+    cond_some true o h = refl
+    cond_some false o h = cc
 
 -- what every core keeps, with another cache
 pub whole_cache : (old : Core) (e : EngineView) (cache : CacheView) → e ≡ record old.engine { cache = cache } → ((q : ℕ) → cached.dirty_in cache q ≡ cached.dirty_in old.engine.cache q)

@@ -53,6 +53,7 @@ impl Core {
     ghost use Rattle.dep_graph.specs.Lists.{dirty_in};
     ghost use Rattle.store_core.specs.Damaged.{HasTableCause, IsFirstMalformed, LooksOver, TableCall};
     ghost use Rattle.store_core.specs.Fetching.{OnlyBrings};
+    ghost use Rattle.store_core.specs.Orderly.{KeepsFormed};
     ghost use Rattle.store_core.specs.Quiet.{GivesBack, Quiet, none, once};
     ghost use Rattle.store_core.specs.Views.{page_in};
 
@@ -72,6 +73,7 @@ impl Core {
         ensures looked { LooksOver page result (D.seen device.old) self.old self.new }
         ensures there { OnOk result (is_there self.new.engine.cache page ≡ true) }
         ensures brings { OnlyBrings page self.old self.new }
+        ensures formed { KeepsFormed self.old self.new }
         ensures quiet { Quiet none (D.seen device.old) (D.seen device.new) self.old self.new }
     {
         let read = match self.fetch(device, page) {
@@ -100,6 +102,7 @@ impl Core {
         ensures looked { LooksOver page result (D.seen device.old) self.old self.new }
         ensures there { OnOk result (is_there self.new.engine.cache page ≡ true) }
         ensures brings { OnlyBrings page self.old self.new }
+        ensures formed { KeepsFormed self.old self.new }
         ensures ok { OnOk result (Quiet (once page) (D.seen device.old) (D.seen device.new) self.old self.new) }
         ensures err { OnErr result (Quiet none (D.seen device.old) (D.seen device.new) self.old self.new) }
     {
@@ -123,7 +126,6 @@ impl Core {
         ensures same { OnOk result (self.new ≡ self.old) }
         ensures err { IfErr result (λ damage. (damage.page ≡ page) × IsFirstMalformed self.old.shape page (page_in self.old page) damage.entry) }
         ensures gone { OnErr result (is_there self.new.engine.cache page ≡ false) }
-        ensures others { OnErr result ((q : ℕ) → is_there self.new.engine.cache q ≡ true → content_in self.new.engine.cache q ≡ content_in self.old.engine.cache q) }
         ensures back { OnErr result (GivesBack none self.old self.new) }
     {
         match self.fault_of(page) {
@@ -155,7 +157,6 @@ impl Core {
         requires clean { dirty_in self.old.engine.graph page ≡ false }
         requires free { holds_in self.old.engine.cache page ≡ 0 }
         ensures gone { is_there self.new.engine.cache page ≡ false }
-        ensures others { (q : ℕ) → is_there self.new.engine.cache q ≡ true → content_in self.new.engine.cache q ≡ content_in self.old.engine.cache q }
         ensures back { GivesBack none self.old self.new }
     {
         forget_page(&mut self.engine, page);
