@@ -105,7 +105,7 @@ rest_stands sound d e old new array s known pages rest world = stands_then sound
     (same_remembered (place_of old.shape) old.ledger.births new.ledger.births s.calls s.births rest.births) (λ p is. ap (λ q. told_of q p) rest.pool ∙ s.pool p is)
 
 -- no call of the device
-still_passes : (d : Meaning) (old new : Core) → SameRest old new → new.engine.cache.calls ≡ old.engine.cache.calls
+pub still_passes : (d : Meaning) (old new : Core) → SameRest old new → new.engine.cache.calls ≡ old.engine.cache.calls
     → (IsOver d old → (q : ℕ) → held_or (content_in new.engine.cache q) (newest_on d.state q) ≡ held_or (content_in old.engine.cache q) (newest_on d.state q)) → Passes d d old new
 still_passes d old new rest calls same = record {
   calls = [];
@@ -119,7 +119,7 @@ still_passes d old new rest calls same = record {
 }
 
 -- each page is cached as before, where no call of the device was made
-still_cached : (d : Meaning) (old new : Core)
+pub still_cached : (d : Meaning) (old new : Core)
     → (IsOver d old → (q : ℕ) → held_or (content_in new.engine.cache q) (newest_on d.state q) ≡ held_or (content_in old.engine.cache q) (newest_on d.state q)) → SameCached d d old new
 still_cached d old new same sound array s = same (over sound d old array s)
 
@@ -163,6 +163,7 @@ back_then m n a b c h k = record {
   rest = rest_then a b c h.rest k.rest;
   holds = λ q. omega (arith, h.holds q, k.holds q);
   held = λ q p. k.held q p ∙ h.held q (omega (arith, p, k.holds q));
+  stay = λ q there. k.stay q there ∙ h.stay q (ap is_some (sym (k.stay q there)) ∙ there);
 }
 
 pub quiet_back : (m : ℕ → ℕ) (d e : Meaning) (a b c : Core) → Quiet m d e a b → GivesBack m b c → Quiet none d e a c
@@ -258,16 +259,27 @@ same_moment d old new rest world m is =
       clean = is.clean;
     }
 
+-- where what is not dirty is cached as the device has it
+pub back_moment : (d : Meaning) (old new : Core) → SameRest old new
+    → (((a : ℕ) → dirty_in old.engine.graph a ≡ false → (world_of d old).cached a ≡ newest_on d.state a) → (q : ℕ) → held_or (content_in new.engine.cache q) (newest_on d.state q) ≡ held_or (content_in old.engine.cache q) (newest_on d.state q))
+    → (m : Moment) → IsMomentOf d old m → IsMomentOf d new m
+back_moment d old new rest same m is = same_moment d old new rest
+    (rest_world d d old new rest refl (same (λ a off. ap (λ (w : World). w.cached a) is.world ∙ is.clean a (ap (λ (w : World). w.dirty a) (sym is.world) ∙ off) ∙ ap (λ (w : World). w.newest a) (sym is.world)))) m is
+
 pub gives_back : (old new : Core) (page : ℕ) → 0 < holds_in old.engine.cache page → SameRest old new → Unheld old.engine.cache new.engine.cache page → GivesBack (once page) old new
 gives_back old new page some rest u = record {
   passes = λ d. still_passes d old new rest u.numbers.calls (λ is_over. unheld_contents d old new page u is_over.clean);
   cached = λ d. still_cached d old new (λ is_over. unheld_contents d old new page u is_over.clean);
-  moments = λ d m is. same_moment d old new rest
-      (rest_world d d old new rest refl (unheld_contents d old new page u (λ a off. ap (λ (w : World). w.cached a) is.world ∙ is.clean a (ap (λ (w : World). w.dirty a) (sym is.world) ∙ off) ∙ ap (λ (w : World). w.newest a) (sym is.world)))) m is;
+  moments = λ d m is. back_moment d old new rest (unheld_contents d old new page u) m is;
   rest = rest;
   holds = λ q. held_less q page (holds_in old.engine.cache q) (holds_in new.engine.cache q) (u.holds q) (λ z. subst (λ x. 0 < holds_in old.engine.cache x) (sym z) some);
   held = λ q h. u.kept q (table_held new.engine.cache q h);
+  stay = λ q there. u.content q ∙ cond_some (in_table new.engine.cache q || is_recent new.engine.cache q) (content_in old.engine.cache q) (ap is_some (sym (u.content q)) ∙ there);
 }
+  where
+    cond_some : (b : Bool) (o : Option Block) → is_some (cond b o None) ≡ true → cond b o None ≡ o
+    cond_some true o h = refl
+    cond_some false o h = cc
 
 -- what every core keeps, with another cache
 pub whole_cache : (old : Core) (e : EngineView) (cache : CacheView) → e ≡ record old.engine { cache = cache } → ((q : ℕ) → cached.dirty_in cache q ≡ cached.dirty_in old.engine.cache q)
