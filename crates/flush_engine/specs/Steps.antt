@@ -1,7 +1,7 @@
 -- The steps that a call of an engine makes.
 use Rattle.std.specs.Prelude.{◌≡◌, ℕ, true, [], ◌∷◌, Result, Ok, Err}
 use Rattle.page_device.specs.declared.error.Failed.{Failed}
-use Rattle.page_device.specs.Meaning.{OneCall, FlushEntry}
+use Rattle.page_device.specs.Meaning.{HasCause, Meaning, OneCall, FlushEntry}
 use Rattle.page_cache.specs.View.{content_in}
 use Rattle.page_cache.specs.Calls.{Tried, WritesPage, WrittenOut}
 use Rattle.page_cache.specs.Calls.{Fixed as CacheFixed}
@@ -13,6 +13,10 @@ use Rattle.flush_engine.specs.Tallies.{left_out}
 use Rattle.flush_engine.specs.Telling.{Telling}
 use Rattle.flush_engine.specs.View.{Moment}
 
+-- of one write or barrier: a failure is a counted fault
+abbrev pub CountsFault : Result Unit Failed → Meaning → Meaning → Type 0
+CountsFault result old new = HasCause result old new
+
 module _ {W : Type 0} (T : Telling W) where
   -- A page that was ready was written: the device was handed its whole content of that moment, the cache keeps each content, and the watch was told of the try and then of the write.
   pub record WriteDone (page : ℕ) (old new : Moment W) : Type 0 where
@@ -20,6 +24,7 @@ module _ {W : Type 0} (T : Telling W) where
     pub between : W
     pub tried : T.tried old.watch page between
     pub call : WritesPage (content_in old.engine.cache page) page (Ok tt) old.device new.device
+    pub cause : CountsFault (Ok tt) old.device new.device
     pub cache : WrittenOut old.engine.cache new.engine.cache page
     pub graph : Wrote page old.engine.graph new.engine.graph
     pub tallies : new.engine.tallies ≡ left_out page old.engine.tallies
@@ -32,6 +37,7 @@ module _ {W : Type 0} (T : Telling W) where
     pub tried : T.tried old.watch page new.watch
     pub failed : Failed
     pub call : WritesPage (content_in old.engine.cache page) page (Err failed) old.device new.device
+    pub cause : CountsFault (Err failed) old.device new.device
     pub cache : Tried old.engine.cache new.engine.cache
     pub graph : new.engine.graph ≡ old.engine.graph
     pub tallies : new.engine.tallies ≡ old.engine.tallies
@@ -40,6 +46,7 @@ module _ {W : Type 0} (T : Telling W) where
   -- A barrier was made, and the watch was told of it. The cache keeps each content but those of clean pages that nobody holds, which it may let go for want of memory.
   pub record BarrierDone (old new : Moment W) : Type 0 where
     pub call : OneCall (FlushEntry (Ok tt)) old.device new.device
+    pub cause : CountsFault (Ok tt) old.device new.device
     pub cache : CacheFixed old.engine.cache new.engine.cache
     pub graph : GraphFixed old.engine.graph new.engine.graph
     pub tallies : new.engine.tallies ≡ old.engine.tallies
@@ -50,6 +57,7 @@ module _ {W : Type 0} (T : Telling W) where
   pub record BarrierFailed (old new : Moment W) : Type 0 where
     pub failed : Failed
     pub call : OneCall (FlushEntry (Err failed)) old.device new.device
+    pub cause : CountsFault (Err failed) old.device new.device
     pub cache : Tried old.engine.cache new.engine.cache
     pub graph : new.engine.graph ≡ old.engine.graph
     pub tallies : new.engine.tallies ≡ old.engine.tallies

@@ -104,6 +104,7 @@ clears_print a b c n r placed one had graph same pages rest nodes spare edited s
       same = record {
         holds = λ q. printed.only.same.holds q ∙ ap (λ (k : CacheView). holds_in k q) cache ∙ same.holds q;
         there = λ q. printed.only.same.there q ∙ ap (λ (k : CacheView). is_there k q) cache ∙ same.there q;
+        calls = printed.only.same.calls ∙ ap (λ (k : CacheView). k.calls) cache ∙ same.calls;
       };
       others = λ q ne. printed.only.others q (λ e. ne (e ∙ sym there.print_at)) ∙ ap (λ (k : CacheView). held_or (content_in k q) zero_block) cache ∙ pages q;
       none = λ h. ap (λ (k : ℕ). print_entry_of (page_in n k) (print_place r.page)) there.print_at ∙ ap (λ (p : Block). print_entry_of p (print_place r.page)) (sym (page_is n (print_page c.shape r.page) printed.page printed.only.here)) ∙ printed.sets.entry;
@@ -139,7 +140,7 @@ clears_none core r none stays = record {
   shape = refl;
   queue = refl;
   pool = refl;
-  same = record { holds = λ q. refl; there = λ q. refl };
+  same = record { holds = λ q. refl; there = λ q. refl; calls = refl };
   others = λ q ne. refl;
   none = none;
   kept = λ more. refl;
@@ -290,6 +291,7 @@ module _ (a b c e n : Core) (i : ℕ) (r : Release) (can : CanApply i r a) (plac
         same = record {
           holds = λ q. low.only.same.holds q ∙ held_e q;
           there = λ q. low.only.same.there q ∙ cleared.same.there q ∙ ap (λ (k : CacheView). is_there k q) cache ∙ same.there q;
+          calls = low.only.same.calls ∙ cleared.same.calls ∙ ap (λ (k : CacheView). k.calls) cache ∙ same.calls;
         };
         dirty = λ x. ap (λ (g : GraphLists). dirty_in g x) last ∙ cleared.dirty x
             ∙ ap (λ (y : Bool). y || (loses_print c r && eqb x r.print_at)) (ap (λ (l : List ℕ). holds l x) same_dirty ∙ ap (λ (g : GraphLists). dirty_in g x) graph ∙ holds_placed r.count_at a.engine.graph.dirty x)

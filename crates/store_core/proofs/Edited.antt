@@ -111,6 +111,7 @@ pub same_holds : (old new : Core) (page : ℕ) (block : Block) → Edited old.en
 same_holds old new page block e there = record {
   holds = e.holds;
   there = λ q. ap is_some (e.content q) ∙ some_cond (eqb q page) block (content_in old.engine.cache q) (λ h. elim (cases_eq q page) [ inl is ↦ ap (is_there old.engine.cache) is ∙ there | inr ne ↦ absurd (cc (ne_eqb q page ne)) ]);
+  calls = e.numbers.calls;
 }
 
 pub same_pages : (old : Core) (cache : CacheView) (page : ℕ) (block : Block) → content_in old.engine.cache page ≡ Some block → Edited old.engine.cache cache page block → (q : ℕ) → held_or (content_in cache q) zero_block ≡ page_in old q

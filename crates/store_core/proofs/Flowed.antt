@@ -7,14 +7,17 @@ use Rattle.page_cache.specs.View.{CacheView, content_in, holds_in, in_table}
 use Rattle.dep_graph.specs.Lists.{GraphLists, node_count}
 use Rattle.release_queue.specs.Queued.{QueueLists}
 use Rattle.birth_marks.specs.Births.{recorded_in}
+use Rattle.engine_model.specs.Disk.{newest_on}
 use Rattle.flush_engine.specs.Steps.{BarrierDone, BarrierFailed, WriteDone, WriteFailed}
 use Rattle.flush_engine.specs.View.{EngineView, at}
 use Rattle.store_core.specs.declared.Core.{Core}
 use Rattle.store_core.specs.declared.ledger.Ledger.{Ledger}
 use Rattle.store_core.specs.Ledger.{ledger_told}
+use Rattle.store_core.specs.Views.{held_or}
 use Rattle.store_core.specs.Quiet.{Flows, KeepsRoom, unmoved}
+use Rattle.store_core.proofs.Calls.{flush_ends, not_calm, write_ends}
 use Rattle.store_core.proofs.Releases.{stages_fixed, stages_written}
-use Rattle.store_core.proofs.StepStands.{barrier_stands, failed_barrier_stands, failed_write_stands, queue_written, write_stands}
+use Rattle.store_core.proofs.StepStands.{barrier_cached, barrier_stands, failed_barrier_cached, failed_barrier_stands, failed_write_cached, failed_write_stands, queue_written, write_cached, write_stands}
 use Rattle.store_core.proofs.Stood.{passes_call, passes_same, passes_then}
 
 pub table_held : (c : CacheView) (q : ℕ) → 0 < holds_in c q → in_table c q ≡ true
@@ -45,6 +48,7 @@ room_then a b c h k = record {
 pub flows_then : (d e f : Meaning) (a b c : Core) → Flows d e a b → Flows e f b c → Flows d f a c
 flows_then d e f a b c h k = record {
   passes = passes_then d e f a b c h.passes k.passes;
+  cached = λ sound array s q. k.cached sound array (h.passes.stands sound array s) q ∙ h.cached sound array s q;
   pages = k.pages ∙ h.pages;
   holds = λ q. k.holds q ∙ h.holds q;
   held = λ q p. k.held q (omega (arith, p, h.holds q)) ∙ h.held q p;
@@ -57,6 +61,7 @@ flows_then d e f a b c h k = record {
 pub flows_same : (d : Meaning) (a b : Core) → b.shape ≡ a.shape → b.engine ≡ a.engine → b.ledger ≡ a.ledger → Flows d d a b
 flows_same d a b shape engine ledger = record {
   passes = passes_same d a b shape engine ledger;
+  cached = λ sound array s q. ap (λ (e : EngineView). held_or (content_in e.cache q) (newest_on d.state q)) engine;
   pages = refl;
   holds = λ q. ap (λ (e : EngineView). holds_in e.cache q) engine;
   held = λ q h. ap (λ (e : EngineView). content_in e.cache q) engine;
@@ -70,7 +75,8 @@ module _ (d e : Meaning) (old new : Core) (shape : new.shape ≡ old.shape) wher
   write_flows page w =
       let moved = queue_written old.ledger w.between new.ledger page w.tried w.written.queue in
       record {
-        passes = passes_call (WriteEntry page w.call.block (Ok tt)) d e old new w.call.call shape (λ sound array s. write_stands sound d e old new array shape s page w);
+        passes = passes_call (WriteEntry page w.call.block (Ok tt)) d e old new w.call.call w.cache.calls w.cause.never_falls (λ _. write_ends page w.call.block w.call.call.entry w.call.call.is) shape (λ sound array s. write_stands sound d e old new array shape s page w);
+        cached = λ sound array s. write_cached sound d e old new array shape s page w;
         pages = w.call.call.pages;
         holds = w.cache.holds;
         held = λ q h. w.cache.content q;
@@ -90,7 +96,8 @@ module _ (d e : Meaning) (old new : Core) (shape : new.shape ≡ old.shape) wher
 
   pub failed_write_flows : (page : ℕ) → WriteFailed ledger_told page (at d old.engine old.ledger) (at e new.engine new.ledger) → Flows d e old new
   failed_write_flows page w = record {
-    passes = passes_call (WriteEntry page w.call.block (Err w.failed)) d e old new w.call.call shape (λ sound array s. failed_write_stands sound d e old new array shape s page w);
+    passes = passes_call (WriteEntry page w.call.block (Err w.failed)) d e old new w.call.call w.cache.calls w.cause.never_falls (not_calm w.failed d e w.cause) shape (λ sound array s. failed_write_stands sound d e old new array shape s page w);
+    cached = λ sound array s. failed_write_cached sound d e old new array shape s page w;
     pages = w.call.call.pages;
     holds = w.cache.marks.holds;
     held = λ q h. w.cache.content q;
@@ -107,7 +114,8 @@ module _ (d e : Meaning) (old new : Core) (shape : new.shape ≡ old.shape) wher
 
   pub barrier_flows : BarrierDone ledger_told (at d old.engine old.ledger) (at e new.engine new.ledger) → Flows d e old new
   barrier_flows w = record {
-    passes = passes_call (FlushEntry (Ok tt)) d e old new w.call shape (λ sound array s. barrier_stands sound d e old new array shape s w);
+    passes = passes_call (FlushEntry (Ok tt)) d e old new w.call w.cache.calls w.cause.never_falls (λ _. flush_ends w.call.entry w.call.is) shape (λ sound array s. barrier_stands sound d e old new array shape s w);
+    cached = λ sound array s. barrier_cached sound d e old new array shape s w;
     pages = w.call.pages;
     holds = w.cache.holds;
     held = λ q h. w.cache.kept q (table_held new.engine.cache q (omega (arith, h, w.cache.holds q)));
@@ -127,7 +135,8 @@ module _ (d e : Meaning) (old new : Core) (shape : new.shape ≡ old.shape) wher
 
   pub failed_barrier_flows : BarrierFailed ledger_told (at d old.engine old.ledger) (at e new.engine new.ledger) → Flows d e old new
   failed_barrier_flows w = record {
-    passes = passes_call (FlushEntry (Err w.failed)) d e old new w.call shape (λ sound array s. failed_barrier_stands sound d e old new array shape s w);
+    passes = passes_call (FlushEntry (Err w.failed)) d e old new w.call w.cache.calls w.cause.never_falls (not_calm w.failed d e w.cause) shape (λ sound array s. failed_barrier_stands sound d e old new array shape s w);
+    cached = λ sound array s. failed_barrier_cached sound d e old new array shape s w;
     pages = w.call.pages;
     holds = w.cache.marks.holds;
     held = λ q h. w.cache.content q;

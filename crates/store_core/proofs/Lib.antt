@@ -2,14 +2,18 @@ pub mod Disk
 pub mod Releases
 pub mod Worlds
 pub mod Clean
+pub mod Calls
 pub mod Stood
 pub mod StepStands
 pub mod Flowed
 pub mod Going
 pub mod Quieted
 pub mod Fetched
+pub mod Looked
+pub mod Undamaged
 pub mod Held
 pub mod Good
+pub mod OpenedStands
 pub mod Standing
 pub mod Edited
 pub mod Queued
@@ -28,6 +32,7 @@ pub mod AppliedLaws
 pub mod Released
 pub mod MomentStands
 pub mod Reserved
+pub mod Totaled
 pub mod Owing
 pub mod Looks
 pub mod OrderMarks

@@ -47,6 +47,7 @@ taken_in old mid new page block replaced brought h = elim (cases_Bool (is_there 
     others = λ q ne. h.content q ∙ r.each q ∙ rw (ne_eqb q page ne) refl;
     holds = λ q. h.holds q ∙ ap (λ (n : ℕ). n + cond (eqb q page) 1 0) (r.marks.holds q);
     dirty = λ q. h.dirty q ∙ r.marks.dirty q;
+    calls = h.numbers.calls ∙ r.numbers.calls;
   }
   | inr absent ↦ let b = brought absent in record {
     here = h.content page ∙ b.each page ∙ rw (eq-eqb page page refl) refl;
@@ -55,6 +56,7 @@ taken_in old mid new page block replaced brought h = elim (cases_Bool (is_there 
     others = λ q ne. h.content q ∙ b.each q ∙ rw (ne_eqb q page ne) refl;
     holds = λ q. h.holds q ∙ ap (λ (n : ℕ). n + cond (eqb q page) 1 0) (b.marks.holds q);
     dirty = λ q. h.dirty q ∙ b.marks.dirty q;
+    calls = h.numbers.calls ∙ b.numbers.calls;
   }
 ]
 

@@ -1,11 +1,12 @@
 -- What leaves all that a core stands for: one after another, and given back.
-use Rattle.std.proofs.Common.{arith, ◌≡◌, inl, inr, ◌<◌, ◌+◌, ◌-◌, ◌||◌, ℕ, Bool, true, false, cond, refl, sym, ap, ◌∙◌, subst, List, Option, None, eq-eqb, ne_eqb, is_some}
+use Rattle.std.proofs.Common.{arith, ◌≡◌, inl, inr, ◌<◌, ◌+◌, ◌-◌, ◌||◌, ℕ, Bool, true, false, cond, refl, sym, ap, ◌∙◌, subst, List, [], Option, None, eq-eqb, ne_eqb, is_some}
+use Rattle.std.proofs.lemmas.List.Elements.{All-nil}
 use Rattle.std.proofs.lemmas.Bool.{cases_eq, cases_Bool}
 use Rattle.page_device.specs.Block.{Block}
 use Rattle.page_device.specs.Meaning.{Meaning}
-use Rattle.page_device.specs.Moments.{leaves_start}
+use Rattle.page_device.specs.Gains.{gains_none}
+use Rattle.page_layout.specs.Shape.{total, ShapeView}
 use Rattle.page_layout.specs.Formed.{is_formed}
-use Rattle.page_layout.specs.Shape.{ShapeView, total}
 use Rattle.page_cache.specs.View as cached
 use Rattle.page_cache.specs.View.{CacheView, content_in, holds_in, in_table, is_recent, is_there}
 use Rattle.page_cache.specs.Calls.{Held, Same as SameCache, Unheld}
@@ -28,9 +29,10 @@ use Rattle.store_core.specs.declared.ledger.Ledger.{Ledger}
 use Rattle.store_core.specs.Layout.{lay_of, place_of}
 use Rattle.store_core.specs.Views.{IsKnown, IsOver, held_or, world_in, world_of}
 use Rattle.store_core.specs.Whole.{IsWhole}
+use Rattle.store_core.specs.Stands.{EndsDone, IsFit, Passes, StandsFor}
+use Rattle.store_core.specs.Quiet.{Flows, GivesBack, Quiet, SameCached, SameGraph, SameReleases, SameRest, none, once}
+use Rattle.store_core.proofs.Calls.{counts_none, no_moment}
 use Rattle.store_core.specs.Moments.{AreStaged, IsMomentOf}
-use Rattle.store_core.specs.Stands.{IsFit, Passes, StandsFor}
-use Rattle.store_core.specs.Quiet.{Flows, GivesBack, Quiet, SameGraph, SameReleases, SameRest, none, once}
 use Rattle.store_core.proofs.Clean.{over}
 use Rattle.store_core.proofs.Flowed.{room_then, same_room, table_held}
 use Rattle.store_core.proofs.Stood.{images_fit, passes_same, passes_then, stands_then}
@@ -103,21 +105,35 @@ rest_stands sound d e old new array s known pages rest world = stands_then sound
     (same_remembered (place_of old.shape) old.ledger.births new.ledger.births s.calls s.births rest.births) (λ p is. ap (λ q. told_of q p) rest.pool ∙ s.pool p is)
 
 -- no call of the device
-still_passes : (d : Meaning) (old new : Core) → SameRest old new
+pub still_passes : (d : Meaning) (old new : Core) → SameRest old new → new.engine.cache.calls ≡ old.engine.cache.calls
     → (IsOver d old → (q : ℕ) → held_or (content_in new.engine.cache q) (newest_on d.state q) ≡ held_or (content_in old.engine.cache q) (newest_on d.state q)) → Passes d d old new
-still_passes d old new rest same = record {
+still_passes d old new rest calls same = record {
+  calls = [];
+  gains = gains_none d;
+  counted = counts_none old.engine.cache.calls new.engine.cache.calls calls;
+  falls = omega arith;
+  calm = λ _. All-nil EndsDone;
   stands = λ sound array s. rest_stands sound d d old new array s s.known refl rest (rest_world d d old new rest refl (same (over sound d old array s)));
-  leaves = λ sound array s. leaves_start d (IsFit old.shape sound array) (images_fit sound d old array s);
+  each = λ sound array s. no_moment (IsFit old.shape sound array) d.state (images_fit sound d old array s);
   shape = rest.shape;
 }
 
+-- each page is cached as before, where no call of the device was made
+pub still_cached : (d : Meaning) (old new : Core)
+    → (IsOver d old → (q : ℕ) → held_or (content_in new.engine.cache q) (newest_on d.state q) ≡ held_or (content_in old.engine.cache q) (newest_on d.state q)) → SameCached d d old new
+still_cached d old new same sound array s = same (over sound d old array s)
+
+cached_then : (d e f : Meaning) (a b c : Core) → Passes d e a b → SameCached d e a b → SameCached e f b c → SameCached d f a c
+cached_then d e f a b c p h k sound array s q = k sound array (p.stands sound array s) q ∙ h sound array s q
+
 -- quiet parts: none, and one after another
 pub quiet_none : (d : Meaning) (a : Core) → Quiet none d d a a
-quiet_none d a = record { passes = passes_same d a a refl refl refl; pages = refl; rest = same_rest a; holds = λ q. omega arith; held = λ q h. refl }
+quiet_none d a = record { passes = passes_same d a a refl refl refl; cached = λ sound array s q. refl; pages = refl; rest = same_rest a; holds = λ q. omega arith; held = λ q h. refl }
 
 pub quiet_then : (m n : ℕ → ℕ) (d e f : Meaning) (a b c : Core) → Quiet m d e a b → Quiet n e f b c → Quiet (λ q. m q + n q) d f a c
 quiet_then m n d e f a b c h k = record {
   passes = passes_then d e f a b c h.passes k.passes;
+  cached = cached_then d e f a b c h.passes h.cached k.cached;
   pages = k.pages ∙ h.pages;
   rest = rest_then a b c h.rest k.rest;
   holds = λ q. omega (arith, h.holds q, k.holds q);
@@ -128,6 +144,7 @@ quiet_then m n d e f a b c h k = record {
 pub quiet_on : (m : ℕ → ℕ) (d e f : Meaning) (a b c : Core) → Quiet none d e a b → Quiet m e f b c → Quiet m d f a c
 quiet_on m d e f a b c h k = record {
   passes = passes_then d e f a b c h.passes k.passes;
+  cached = cached_then d e f a b c h.passes h.cached k.cached;
   pages = k.pages ∙ h.pages;
   rest = rest_then a b c h.rest k.rest;
   holds = λ q. omega (arith, h.holds q, k.holds q);
@@ -135,21 +152,24 @@ quiet_on m d e f a b c h k = record {
 }
 
 pub quiet_as : (m n : ℕ → ℕ) (d e : Meaning) (a b : Core) → ((q : ℕ) → m q ≡ n q) → Quiet m d e a b → Quiet n d e a b
-quiet_as m n d e a b same h = record { passes = h.passes; pages = h.pages; rest = h.rest; holds = λ q. h.holds q ∙ ap (λ (x : ℕ). holds_in a.engine.cache q + x) (same q); held = h.held }
+quiet_as m n d e a b same h = record { passes = h.passes; cached = h.cached; pages = h.pages; rest = h.rest; holds = λ q. h.holds q ∙ ap (λ (x : ℕ). holds_in a.engine.cache q + x) (same q); held = h.held }
 
 -- and given back
 pub back_then : (m n : ℕ → ℕ) (a b c : Core) → GivesBack m a b → GivesBack n b c → GivesBack (λ q. m q + n q) a c
 back_then m n a b c h k = record {
   passes = λ d. passes_then d d d a b c (h.passes d) (k.passes d);
+  cached = λ d. cached_then d d d a b c (h.passes d) (h.cached d) (k.cached d);
   moments = λ d m is. k.moments d m (h.moments d m is);
   rest = rest_then a b c h.rest k.rest;
   holds = λ q. omega (arith, h.holds q, k.holds q);
   held = λ q p. k.held q p ∙ h.held q (omega (arith, p, k.holds q));
+  stay = λ q there. k.stay q there ∙ h.stay q (ap is_some (sym (k.stay q there)) ∙ there);
 }
 
 pub quiet_back : (m : ℕ → ℕ) (d e : Meaning) (a b c : Core) → Quiet m d e a b → GivesBack m b c → Quiet none d e a c
 quiet_back m d e a b c h k = record {
   passes = passes_then d e e a b c h.passes (k.passes e);
+  cached = cached_then d e e a b c h.passes h.cached (k.cached e);
   pages = h.pages;
   rest = rest_then a b c h.rest k.rest;
   holds = λ q. omega (arith, h.holds q, k.holds q);
@@ -160,6 +180,7 @@ quiet_back m d e a b c h k = record {
 pub flows_quiet : (d e : Meaning) (a b : Core) → Quiet none d e a b → Flows d e a b
 flows_quiet d e a b q = record {
   passes = q.passes;
+  cached = q.cached;
   pages = q.pages;
   holds = λ x. omega (arith, q.holds x);
   held = q.held;
@@ -173,12 +194,16 @@ module _ (d : Meaning) (old new : Core) (rest : SameRest old new) where
   plus_none : (n : ℕ) → n ≡ n + 0
   plus_none n = omega arith
 
-  same_contents : ((q : ℕ) → content_in new.engine.cache q ≡ content_in old.engine.cache q) → Passes d d old new
-  same_contents same = still_passes d old new rest (λ _ q. ap (λ (o : Option Block). held_or o (newest_on d.state q)) (same q))
+  same_contents : new.engine.cache.calls ≡ old.engine.cache.calls → ((q : ℕ) → content_in new.engine.cache q ≡ content_in old.engine.cache q) → Passes d d old new
+  same_contents calls same = still_passes d old new rest calls (λ _ q. ap (λ (o : Option Block). held_or o (newest_on d.state q)) (same q))
+
+  same_held : ((q : ℕ) → content_in new.engine.cache q ≡ content_in old.engine.cache q) → SameCached d d old new
+  same_held same = still_cached d old new (λ _ q. ap (λ (o : Option Block). held_or o (newest_on d.state q)) (same q))
 
   pub quiet_same : new.engine.cache ≡ old.engine.cache → Quiet none d d old new
   quiet_same cache = record {
-    passes = same_contents (λ q. ap (λ (c : CacheView). content_in c q) cache);
+    passes = same_contents (ap (λ (c : CacheView). c.calls) cache) (λ q. ap (λ (c : CacheView). content_in c q) cache);
+    cached = same_held (λ q. ap (λ (c : CacheView). content_in c q) cache);
     pages = refl;
     rest = rest;
     holds = λ q. ap (λ (c : CacheView). holds_in c q) cache ∙ plus_none (holds_in old.engine.cache q);
@@ -187,7 +212,8 @@ module _ (d : Meaning) (old new : Core) (rest : SameRest old new) where
 
   pub quiet_contents : SameCache old.engine.cache new.engine.cache → Quiet none d d old new
   quiet_contents same = record {
-    passes = same_contents same.content;
+    passes = same_contents same.numbers.calls same.content;
+    cached = same_held same.content;
     pages = refl;
     rest = rest;
     holds = λ q. same.marks.holds q ∙ plus_none (holds_in old.engine.cache q);
@@ -195,7 +221,7 @@ module _ (d : Meaning) (old new : Core) (rest : SameRest old new) where
   }
 
   pub quiet_held : (page : ℕ) → Held old.engine.cache new.engine.cache page → Quiet (once page) d d old new
-  quiet_held page h = record { passes = same_contents h.content; pages = refl; rest = rest; holds = h.holds; held = λ q p. h.content q }
+  quiet_held page h = record { passes = same_contents h.numbers.calls h.content; cached = same_held h.content; pages = refl; rest = rest; holds = h.holds; held = λ q p. h.content q }
 
 -- a page is held once less
 dropped_or_not : (b : Bool) (o : Option Block) (n : Block) → held_or o n ≡ n → held_or (cond b o None) n ≡ held_or o n
@@ -233,15 +259,27 @@ same_moment d old new rest world m is =
       clean = is.clean;
     }
 
+-- where what is not dirty is cached as the device has it
+pub back_moment : (d : Meaning) (old new : Core) → SameRest old new
+    → (((a : ℕ) → dirty_in old.engine.graph a ≡ false → (world_of d old).cached a ≡ newest_on d.state a) → (q : ℕ) → held_or (content_in new.engine.cache q) (newest_on d.state q) ≡ held_or (content_in old.engine.cache q) (newest_on d.state q))
+    → (m : Moment) → IsMomentOf d old m → IsMomentOf d new m
+back_moment d old new rest same m is = same_moment d old new rest
+    (rest_world d d old new rest refl (same (λ a off. ap (λ (w : World). w.cached a) is.world ∙ is.clean a (ap (λ (w : World). w.dirty a) (sym is.world) ∙ off) ∙ ap (λ (w : World). w.newest a) (sym is.world)))) m is
+
 pub gives_back : (old new : Core) (page : ℕ) → 0 < holds_in old.engine.cache page → SameRest old new → Unheld old.engine.cache new.engine.cache page → GivesBack (once page) old new
 gives_back old new page some rest u = record {
-  passes = λ d. still_passes d old new rest (λ is_over. unheld_contents d old new page u is_over.clean);
-  moments = λ d m is. same_moment d old new rest
-      (rest_world d d old new rest refl (unheld_contents d old new page u (λ a off. ap (λ (w : World). w.cached a) is.world ∙ is.clean a (ap (λ (w : World). w.dirty a) (sym is.world) ∙ off) ∙ ap (λ (w : World). w.newest a) (sym is.world)))) m is;
+  passes = λ d. still_passes d old new rest u.numbers.calls (λ is_over. unheld_contents d old new page u is_over.clean);
+  cached = λ d. still_cached d old new (λ is_over. unheld_contents d old new page u is_over.clean);
+  moments = λ d m is. back_moment d old new rest (unheld_contents d old new page u) m is;
   rest = rest;
   holds = λ q. held_less q page (holds_in old.engine.cache q) (holds_in new.engine.cache q) (u.holds q) (λ z. subst (λ x. 0 < holds_in old.engine.cache x) (sym z) some);
   held = λ q h. u.kept q (table_held new.engine.cache q h);
+  stay = λ q there. u.content q ∙ cond_some (in_table new.engine.cache q || is_recent new.engine.cache q) (content_in old.engine.cache q) (ap is_some (sym (u.content q)) ∙ there);
 }
+  where
+    cond_some : (b : Bool) (o : Option Block) → is_some (cond b o None) ≡ true → cond b o None ≡ o
+    cond_some true o h = refl
+    cond_some false o h = cc
 
 -- what every core keeps, with another cache
 pub whole_cache : (old : Core) (e : EngineView) (cache : CacheView) → e ≡ record old.engine { cache = cache } → ((q : ℕ) → cached.dirty_in cache q ≡ cached.dirty_in old.engine.cache q)

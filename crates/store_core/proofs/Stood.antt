@@ -1,9 +1,13 @@
 -- What a core stands for: in each image, and after a call of the device.
-use Rattle.std.proofs.Common.{arith, ◌≡◌, inr, ◌≤◌, ℕ, Bool, refl, sym, ap, ◌∙◌, subst, List, [], get_or}
+use Rattle.std.proofs.Common.{arith, ◌≡◌, inr, ◌≤◌, ℕ, Bool, refl, sym, ap, ◌∙◌, subst, List, [], ◌∷◌, ◌++◌, get_or}
+use Rattle.std.proofs.lemmas.List.Elements.{All-append, All-cons, All-nil}
 use Rattle.page_device.specs.Block.{Block}
 use Rattle.page_device.specs.Meaning.{Meaning, OneCall}
 use Rattle.page_device.specs.declared.device.LogEntry.{LogEntry}
-use Rattle.page_device.specs.Moments.{EachImage, leaves_call, leaves_start, leaves_then}
+use Rattle.page_device.specs.Faults.{IsCalm, calm_first, calm_next}
+use Rattle.page_device.specs.Gains.{gains_call, gains_none, gains_then, moments_then}
+use Rattle.page_device.specs.Moments.{EachImage, EachMoment}
+use Rattle.page_cache.specs.Calls.{after_call}
 use Rattle.page_layout.specs.Shape.{IsSuperblock, ShapeView, told_shape, total}
 use Rattle.order_model.specs.Calls.{Call}
 use Rattle.order_model.specs.Pool.{Told}
@@ -18,7 +22,9 @@ use Rattle.engine_model.proofs.Images.{image_fits, image_reads}
 use Rattle.store_core.specs.declared.Core.{Core}
 use Rattle.store_core.specs.Layout.{lay_of, place_of, top}
 use Rattle.store_core.specs.Views.{IsKnown, world_of}
-use Rattle.store_core.specs.Stands.{HasShapeOf, IsFit, Passes, StandsFor, moment_of}
+use Rattle.flush_engine.specs.View.{EngineView}
+use Rattle.store_core.specs.Stands.{EndsDone, HasShapeOf, IsFit, Passes, StandsFor, moment_of}
+use Rattle.store_core.proofs.Calls.{counts_append, counts_none, counts_one, no_moment, one_moment}
 
 -- each image of the device is fit
 pub images_fit : (sound : Bool) (d : Meaning) (core : Core) (array : ℕ → List Block) → StandsFor sound d core array → EachImage (IsFit core.shape sound array) d.state
@@ -58,11 +64,16 @@ stands_then sound d e old new array s known pages shape calls told w is first ke
 }
 
 -- one call of the device
-pub passes_call : (P : LogEntry → Type 0) (d e : Meaning) (old new : Core) → OneCall P d e → new.shape ≡ old.shape
+pub passes_call : (P : LogEntry → Type 0) (d e : Meaning) (old new : Core) (call : OneCall P d e) → new.engine.cache.calls ≡ after_call old.engine.cache.calls → d.faults ≤ e.faults → (IsCalm d e → EndsDone call.entry) → new.shape ≡ old.shape
     → ((sound : Bool) (array : ℕ → List Block) → StandsFor sound d old array → StandsFor sound e new array) → Passes d e old new
-passes_call P d e old new call shape stands = record {
+passes_call P d e old new call counted falls ends shape stands = record {
+  calls = call.entry ∷ [];
+  gains = gains_call P d e call;
+  counted = counts_one old.engine.cache.calls new.engine.cache.calls counted;
+  falls = falls;
+  calm = λ calm. All-cons EndsDone call.entry [] (ends calm) (All-nil EndsDone);
   stands = stands;
-  leaves = λ sound array s. leaves_call P d e (IsFit old.shape sound array) s.known.tells_pages call (images_fit sound d old array s)
+  each = λ sound array s. one_moment P (IsFit old.shape sound array) d e call s.known.tells_pages (images_fit sound d old array s)
       (subst (λ (x : ShapeView). EachImage (IsFit x sound array) e.state) shape (images_fit sound e new array (stands sound array s)));
   shape = shape;
 }
@@ -70,9 +81,14 @@ passes_call P d e old new call shape stands = record {
 -- one after another
 pub passes_then : (d e f : Meaning) (a b c : Core) → Passes d e a b → Passes e f b c → Passes d f a c
 passes_then d e f a b c p q = record {
+  calls = p.calls ++ q.calls;
+  gains = gains_then p.calls q.calls d e f p.gains q.gains;
+  counted = counts_append p.calls q.calls a.engine.cache.calls b.engine.cache.calls c.engine.cache.calls p.counted q.counted;
+  falls = omega (arith, p.falls, q.falls);
+  calm = λ calm. All-append EndsDone p.calls q.calls (p.calm (calm_first d e f p.falls q.falls calm)) (q.calm (calm_next d e f p.falls q.falls calm));
   stands = λ sound array s. q.stands sound array (p.stands sound array s);
-  leaves = λ sound array s. leaves_then d e f (IsFit a.shape sound array) (IsFit b.shape sound array) s.known.tells_pages (p.leaves sound array s)
-      (λ image fit. subst (λ (x : ShapeView). IsFit x sound array image) p.shape fit) (q.leaves sound array (p.stands sound array s));
+  each = λ sound array s. moments_then p.calls q.calls d e (IsFit a.shape sound array) s.known.tells_pages p.gains (p.each sound array s)
+      (subst (λ (x : ShapeView). EachMoment (IsFit x sound array) e.state q.calls) p.shape (q.each sound array (p.stands sound array s)));
   shape = q.shape ∙ p.shape;
 }
 
@@ -85,7 +101,12 @@ same_parts sound d a b array shape engine ledger s = stands_then sound d d a b a
 
 pub passes_same : (d : Meaning) (a b : Core) → b.shape ≡ a.shape → b.engine ≡ a.engine → b.ledger ≡ a.ledger → Passes d d a b
 passes_same d a b shape engine ledger = record {
+  calls = [];
+  gains = gains_none d;
+  counted = counts_none a.engine.cache.calls b.engine.cache.calls (ap (λ (e : EngineView). e.cache.calls) engine);
+  falls = omega arith;
+  calm = λ _. All-nil EndsDone;
   stands = λ sound array s. same_parts sound d a b array shape engine ledger s;
-  leaves = λ sound array s. leaves_start d (IsFit a.shape sound array) (images_fit sound d a array s);
+  each = λ sound array s. no_moment (IsFit a.shape sound array) d.state (images_fit sound d a array s);
   shape = shape;
 }

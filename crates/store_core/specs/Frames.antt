@@ -7,10 +7,11 @@ use Rattle.store_core.specs.declared.Core.{Core}
 use Rattle.store_core.specs.Stands.{StandsFor}
 use Rattle.store_core.specs.Views.{page_in}
 
--- who holds what, and what is there
+-- who holds what, what is there, and how many calls the device had
 pub record SameHolds (old new : Core) : Type 0 where
   pub holds : (q : ℕ) → holds_in new.engine.cache q ≡ holds_in old.engine.cache q
   pub there : (q : ℕ) → is_there new.engine.cache q ≡ is_there old.engine.cache q
+  pub calls : new.engine.cache.calls ≡ old.engine.cache.calls
 
 -- All but the engine stays, and the engine has room for as many pages.
 pub record OnlyEngine (old new : Core) : Type 0 where

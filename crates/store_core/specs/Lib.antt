@@ -15,7 +15,10 @@ pub mod Applied
 pub mod Quiet
 pub mod Room
 pub mod Fetching
+pub mod Damaged
+pub mod Opened
 pub mod Weaker
+pub mod Totals
 pub mod Owed
 pub mod Orderly
 pub mod Passing

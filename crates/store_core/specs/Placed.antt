@@ -42,6 +42,7 @@ pub record TakenIn (page : ℕ) (block : Block) (old new : CacheView) : Type 0 w
   pub others : (q : ℕ) → q ≢ page → content_in new q ≡ cond (gone q) None (content_in old q)
   pub holds : (q : ℕ) → holds_in new q ≡ holds_in old q + cond (eqb q page) 1 0
   pub dirty : (q : ℕ) → dirty_in new q ≡ dirty_in old q
+  pub calls : new.calls ≡ old.calls
 
 -- nothing changed, but for how the cache keeps it
 pub record SameCore (old new : Core) : Type 0 where

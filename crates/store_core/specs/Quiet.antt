@@ -1,15 +1,17 @@
 -- What leaves the arrays that a core stands for, and what is there of the pages that are held.
-use Rattle.std.specs.Prelude.{◌≡◌, ◌<◌, ◌≤◌, ◌+◌, ℕ, true, false, map, eqb, cond}
+use Rattle.std.specs.Prelude.{◌≡◌, ◌<◌, ◌≤◌, ◌+◌, ℕ, List, Bool, true, false, map, eqb, cond}
+use Rattle.page_device.specs.Block.{Block}
 use Rattle.page_device.specs.Meaning.{Meaning}
-use Rattle.page_cache.specs.View.{content_in, holds_in}
+use Rattle.page_cache.specs.View.{content_in, holds_in, is_there}
 use Rattle.order_model.specs.declared.Slot.{Slot}
 use Rattle.dep_graph.specs.Lists.{GraphLists, node_count}
 use Rattle.release_queue.specs.declared.Release.{Release}
 use Rattle.release_queue.specs.Queued.{QueueLists}
 use Rattle.birth_marks.specs.Births.{Same, recorded_in}
 use Rattle.store_core.specs.declared.Core.{Core}
+use Rattle.store_core.specs.Stands.{Passes, StandsFor}
+use Rattle.store_core.specs.Views.{world_of}
 use Rattle.store_core.specs.Moments.{KeepsMoments}
-use Rattle.store_core.specs.Stands.{Passes}
 
 -- no page, and one
 abbrev pub none : ℕ → ℕ
@@ -17,6 +19,10 @@ none q = 0
 
 abbrev pub once : ℕ → ℕ → ℕ
 once page q = cond (eqb q page) 1 0
+
+-- whatever the array that stands: each page is cached as before
+abbrev pub SameCached : Meaning → Meaning → Core → Core → Type 0
+SameCached d e old new = (sound : Bool) (array : ℕ → List Block) → StandsFor sound d old array → (q : ℕ) → (world_of e new).cached q ≡ (world_of d old).cached q
 
 -- of a release, all but its stage and its mark
 abbrev pub unmoved : Release → Release
@@ -35,9 +41,10 @@ pub record KeepsRoom (old new : Core) : Type 0 where
   pub nodes : node_count new.engine.graph ≤ node_count old.engine.graph
   pub room : new.engine.room ≡ old.engine.room
 
--- What calls of the device may do: the same arrays stand, and of each part there may move stages and marks of releases, marks and edges, and what was tried or fixed; no hold, no page that is held, and no room.
+-- What calls of the device may do: the same arrays stand, and of each part there may move stages and marks of releases, marks and edges, and what was tried or fixed; no hold, no cached content, no page that is held, and no room.
 pub record Flows (d e : Meaning) (old new : Core) : Type 0 where
   pub passes : Passes d e old new
+  pub cached : SameCached d e old new
   pub pages : e.pages ≡ d.pages
   pub holds : (q : ℕ) → holds_in new.engine.cache q ≡ holds_in old.engine.cache q
   pub held : (q : ℕ) → 0 < holds_in old.engine.cache q → content_in new.engine.cache q ≡ content_in old.engine.cache q
@@ -64,15 +71,18 @@ pub record SameRest (old new : Core) : Type 0 where
 -- The arrays and all but the cache stay, so many holds came to each page, and what was held is as it was.
 pub record Quiet (more : ℕ → ℕ) (d e : Meaning) (old new : Core) : Type 0 where
   pub passes : Passes d e old new
+  pub cached : SameCached d e old new
   pub pages : e.pages ≡ d.pages
   pub rest : SameRest old new
   pub holds : (q : ℕ) → holds_in new.engine.cache q ≡ holds_in old.engine.cache q + more q
   pub held : (q : ℕ) → 0 < holds_in old.engine.cache q → content_in new.engine.cache q ≡ content_in old.engine.cache q
 
--- So many holds were given back, and what is held still is as it was. Each moment that the core was it is still.
+-- So many holds were given back, and what is there still is as it was. Each moment that the core was it is still.
 pub record GivesBack (less : ℕ → ℕ) (old new : Core) : Type 0 where
   pub passes : (d : Meaning) → Passes d d old new
+  pub cached : (d : Meaning) → SameCached d d old new
   pub moments : KeepsMoments old new
   pub rest : SameRest old new
   pub holds : (q : ℕ) → holds_in old.engine.cache q ≡ holds_in new.engine.cache q + less q
   pub held : (q : ℕ) → 0 < holds_in new.engine.cache q → content_in new.engine.cache q ≡ content_in old.engine.cache q
+  pub stay : (q : ℕ) → is_there new.engine.cache q ≡ true → content_in new.engine.cache q ≡ content_in old.engine.cache q

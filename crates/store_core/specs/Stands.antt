@@ -1,8 +1,15 @@
 -- What a core over a device stands for, and what calls of the device do to that.
-use Rattle.std.specs.Prelude.{[], ◌≡◌, ◌≤◌, ℕ, List, Bool, get_or, length}
+use Rattle.std.specs.Prelude.{[], ◌≡◌, ◌<◌, ◌≤◌, ◌^◌, ℕ, List, Bool, get_or, length}
+use Rattle.std.specs.List.{All}
 use Rattle.page_device.specs.Block.{Block}
+use Rattle.page_device.specs.Counts.{raised}
+use Rattle.page_device.specs.declared.device.End.TheVariants.{Done}
+use Rattle.page_device.specs.declared.device.LogEntry.{LogEntry}
+use Rattle.page_device.specs.declared.device.LogEntry.TheVariants.{Write, Flush}
+use Rattle.page_device.specs.Faults.{IsCalm}
+use Rattle.page_device.specs.Gains.{Gains}
 use Rattle.page_device.specs.Meaning.{Meaning}
-use Rattle.page_device.specs.Moments.{Leaves}
+use Rattle.page_device.specs.Moments.{EachMoment}
 use Rattle.page_layout.specs.Shape.{ShapeView, IsSuperblock, told_shape, total}
 use Rattle.order_model.specs.Calls.{Call}
 use Rattle.order_model.specs.Pool.{Told}
@@ -43,8 +50,22 @@ pub record IsFit (shape : ShapeView) (sound : Bool) (array : ℕ → List Block)
   pub shape_is : told_shape (get_or image 0 []) ≡ shape
   pub sized : total shape ≤ length image
 
--- what calls of the device from d to e did: the same arrays stand, and a crash at any moment left an image that is fit
+-- the call of the device did what it was asked
+abbrev pub EndsDone : LogEntry → Type 0
+EndsDone (Write page block end) = end ≡ Done
+EndsDone (Flush end) = end ≡ Done
+
+-- a count of calls rose by so many; it stands still at the end of a `u64`, and nowhere else
+pub record CountsCalls (made calls later : ℕ) : Type 0 where
+  pub counted : calls < 2 ^ 64 → later ≡ raised calls made
+
+-- What calls of the device from d to e did: these and no others, which the core counted, and each ended done where no fault was counted. The same arrays stand, and a crash at any moment left an image that is fit.
 pub record Passes (d e : Meaning) (old new : Core) : Type 0 where
+  pub calls : List LogEntry
+  pub gains : Gains calls d e
+  pub counted : CountsCalls (length calls) old.engine.cache.calls new.engine.cache.calls
+  pub falls : d.faults ≤ e.faults
+  pub calm : IsCalm d e → All EndsDone calls
   pub stands : (sound : Bool) (array : ℕ → List Block) → StandsFor sound d old array → StandsFor sound e new array
-  pub leaves : (sound : Bool) (array : ℕ → List Block) → StandsFor sound d old array → Leaves d e (IsFit old.shape sound array)
+  pub each : (sound : Bool) (array : ℕ → List Block) → StandsFor sound d old array → EachMoment (IsFit old.shape sound array) d.state calls
   pub shape : new.shape ≡ old.shape

@@ -16,6 +16,8 @@ mod laws;
 mod ledger;
 mod marking;
 mod naming;
+mod observing;
+mod opening;
 mod orderly;
 mod passing;
 mod placing;
@@ -23,12 +25,15 @@ mod printing;
 mod provided;
 mod releasing;
 mod room;
+mod tables;
+mod totals;
 mod waves;
 
 pub use blocking::blocked_alike;
 use flush_engine::Engine;
 pub use laws::{image_is_good, images_are_fit, moments_stand, moves_stand, settled, weaker};
 pub use ledger::Ledger;
+pub use opening::opened;
 pub use orderly::{
     but_for_none, data_is_orderly, entries_are_orderly, marks_are_orderly, quiet_is_orderly,
 };
@@ -38,6 +43,8 @@ pub use provided::{
     applied_is_provided, holds_move, owed_pages_are_held, reserved_is_enough, stays_provided,
 };
 pub use room::NoRoom;
+pub use tables::{TableError, tables_are_whole};
+pub use totals::{Totals, stat_where_tight, steps_recount, totals_follow};
 
 /// What is kept between commands, but for the policy, the index of prints and the totals.
 #[derive(Drop)]

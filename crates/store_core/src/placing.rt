@@ -103,6 +103,7 @@ impl Core {
         ensures dirty { OnOk result ((a : ℕ) → dirty_in self.new.engine.graph a ≡ (dirty_in self.old.engine.graph a || eqb a (data_page self.old.shape p))) }
         ensures nodes { OnOk result (node_count self.new.engine.graph ≤ node_count self.old.engine.graph + 1) }
         ensures tallies { OnOk result (self.new.engine.tallies ≡ counted (data_page self.old.shape p) self.old.engine.tallies) }
+        ensures calls { OnOk result (self.new.engine.cache.calls ≡ self.old.engine.cache.calls) }
     {
         edits_one_page();
         touched_is_whole();
