@@ -32,3 +32,4 @@ pub mod Looks
 pub mod OrderMarks
 pub mod OrderlySteps
 pub mod OrderlyEdits
+pub mod OrderlyReleases

@@ -53,3 +53,7 @@ pub record IsOrderlyBut (p : ℕ) (core : Core) : Type 0 where
   pub ordered : (d : Meaning) → IsOrdered (lay_of core.shape) (world_of d core)
   pub looked : All (IsLookedBut p core) core.ledger.queue.releases
   pub formed : AreFormed core
+
+-- what is in order but for the releases of a page stays so
+abbrev pub KeepsOrderBut : ℕ → Core → Core → Type 0
+KeepsOrderBut p old new = IsOrderlyBut p old → IsOrderlyBut p new
