@@ -33,3 +33,4 @@ pub mod OrderMarks
 pub mod OrderlySteps
 pub mod OrderlyEdits
 pub mod OrderlyReleases
+pub mod OrderlyFlows
