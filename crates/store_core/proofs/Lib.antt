@@ -34,3 +34,4 @@ pub mod OrderlySteps
 pub mod OrderlyEdits
 pub mod OrderlyReleases
 pub mod OrderlyFlows
+pub mod Spending

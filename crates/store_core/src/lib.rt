@@ -35,7 +35,8 @@ pub use orderly::{
 use page_layout::Shape;
 pub use placing::given_page_is_free;
 pub use provided::{
-    applied_is_provided, holds_move, owed_pages_are_held, reserved_is_enough, stays_provided,
+    applied_is_provided, holds_move, name_owes, owed_pages_are_held, queue_is_provided,
+    reserved_is_enough, stays_provided, steps_spend,
 };
 pub use room::NoRoom;
 
