@@ -42,10 +42,10 @@ pub record Goes (shape : ShapeView) (a b : Moment Ledger) : Type 0 where
   pub flows : total shape ≤ a.device.pages → (w : IsWhole shape a.engine a.watch) (v : IsWhole shape b.engine b.watch) → Flows a.device b.device (core_of shape a w) (core_of shape b v)
 
 module _ (shape : ShapeView) where
-  goes_none : (a : Moment Ledger) → Goes shape a a
+  pub goes_none : (a : Moment Ledger) → Goes shape a a
   goes_none a = record { pages = refl; whole = λ room w. w; flows = λ room w v. flows_same a.device (core_of shape a w) (core_of shape a v) refl refl refl }
 
-  goes_then : (a b c : Moment Ledger) → Goes shape a b → Goes shape b c → Goes shape a c
+  pub goes_then : (a b c : Moment Ledger) → Goes shape a b → Goes shape b c → Goes shape a c
   goes_then a b c h k = record {
     pages = k.pages ∙ h.pages;
     whole = λ room w. k.whole (still room) (h.whole room w);
@@ -114,11 +114,11 @@ module _ (shape : ShapeView) where
     flows = λ room w' v. failed_barrier_flows a.device b.device (core_of shape a w') (core_of shape b v) refl w;
   }
 
-  done_goes : (s : Step) (a b : Moment Ledger) → StepDone ledger_told s a b → Goes shape a b
+  pub done_goes : (s : Step) (a b : Moment Ledger) → StepDone ledger_told s a b → Goes shape a b
   done_goes (WritePage page) a b w = write_goes page a b w
   done_goes MakeBarrier a b w = barrier_goes a b w
 
-  failed_goes : (s : Step) (a b : Moment Ledger) → StepFailed ledger_told s a b → Goes shape a b
+  pub failed_goes : (s : Step) (a b : Moment Ledger) → StepFailed ledger_told s a b → Goes shape a b
   failed_goes (WritePage page) a b w = failed_write_goes page a b w
   failed_goes MakeBarrier a b w = failed_barrier_goes a b w
 

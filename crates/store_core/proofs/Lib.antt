@@ -38,6 +38,9 @@ pub mod Looks
 pub mod OrderMarks
 pub mod OrderlySteps
 pub mod OrderlyEdits
+pub mod OrderlyReleases
+pub mod OrderlyFlows
+pub mod Spending
 pub mod QueueParts
 pub mod TakenOut
 pub mod PartLemmas

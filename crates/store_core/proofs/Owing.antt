@@ -1,19 +1,24 @@
 -- Holds and room that are owed to queued releases.
-use Rattle.std.proofs.Common.{arith, ◌≡◌, ◌<◌, ◌≤◌, ◌+◌, ℕ, zero, suc, cond, refl, sym, ap, ◌∙◌, subst, List, [], ◌∷◌, ◌++◌, map, take, drop, Some, eqb, eq-eqb, length}
+use Rattle.std.proofs.Common.{arith, ◌≡◌, inl, inr, ◌<◌, ◌≤◌, ◌+◌, ℕ, zero, suc, cond, refl, sym, ap, ◌∙◌, subst, List, [], ◌∷◌, ◌++◌, map, take, drop, Some, eqb, eq-eqb, length}
 use Rattle.std.specs.Prelude.{slice_get}
 use Rattle.std.specs.List.{All, remove}
+use Rattle.std.proofs.lemmas.Bool.{cases_eq}
 use Rattle.std.proofs.lemmas.List.Elements.{All-cons, All-head, All-nil, All-tail}
 use Rattle.std.proofs.lemmas.List.{length-append, length-map}
 use Rattle.page_device.specs.Meaning.{Meaning}
 use Rattle.page_cache.specs.View.{holds_in}
+use Rattle.dep_graph.specs.Lists.{node_count}
 use Rattle.release_queue.specs.declared.Release.{Release}
-use Rattle.release_queue.specs.Queued.{QueueLists, after_change}
+use Rattle.release_queue.specs.Queued.{QueueLists, after_change, unmarked}
+use Rattle.flush_engine.specs.View.{EngineView}
 use Rattle.store_core.specs.declared.Core.{Core}
+use Rattle.store_core.specs.declared.ledger.Ledger.{Ledger}
 use Rattle.store_core.specs.Applied.{AppliesRelease}
+use Rattle.store_core.specs.Edits.{NamesBlock, is_name_unborn, named_in, owed, release_of}
 use Rattle.store_core.specs.Owed.{IsProvided, KeepsHolds, Spends, held_for, held_for_all}
 use Rattle.store_core.specs.Quiet.{Flows, GivesBack, KeepsRoom, Quiet, none, once, unmoved}
 use Rattle.store_core.specs.Room.{HasRoom}
-use Rattle.store_core.proofs.Queued.{split_at}
+use Rattle.store_core.proofs.Queued.{owed_none, owed_some, split_at}
 
 -- what holds of each release holds of the one at a place
 pub all_at : (P : Release → Type 0) (xs : List Release) (i : ℕ) (r : Release) → slice_get xs i ≡ Some r → All P xs → P r
@@ -154,3 +159,73 @@ applied_provided i r old new p at x =
       changes = omega (arith, c, w, few, now);
       nodes = omega (arith, d, u, v, few, now);
     }
+
+-- a mark that is set or taken away, and a release that leaves
+pub held_unmarked : (i : ℕ) (rs : List Release) (q : ℕ) → held_for_all (unmarked i rs) q ≡ held_for_all rs q
+unfolding held_for_all unmarked
+held_unmarked i [] q = refl
+held_unmarked zero (r ∷ rs) q = refl
+held_unmarked (suc i) (r ∷ rs) q = ap (λ (n : ℕ). held_for r q + n) (held_unmarked i rs q)
+
+pub length_unmarked : (i : ℕ) (rs : List Release) → length (unmarked i rs) ≡ length rs
+unfolding unmarked
+length_unmarked i [] = refl
+length_unmarked zero (r ∷ rs) = refl
+length_unmarked (suc i) (r ∷ rs) = ap (λ (n : ℕ). suc n) (length_unmarked i rs)
+
+-- another queue for which no more is owed
+module _ (old new : Core) (engine : new.engine ≡ old.engine) (births : new.ledger.births ≡ old.ledger.births) where
+  pub queue_provided : ((q : ℕ) → held_for_all new.ledger.queue.releases q ≤ held_for_all old.ledger.queue.releases q) → length new.ledger.queue.releases ≤ length old.ledger.queue.releases → IsProvided old → IsProvided new
+  queue_provided less few p =
+      let a = p.spare_nodes in let b = p.spare_edges in let c = p.changes in let d = p.nodes in
+      record {
+        holds_owed = λ q. let x = less q in let y = p.holds_owed q in let z = ap (λ (e : EngineView). holds_in e.cache q) engine in omega (arith, x, y, z);
+        spare_nodes = let z = ap (λ (e : EngineView). e.graph.spare_nodes) engine in omega (arith, a, few, z);
+        spare_edges = let z = ap (λ (e : EngineView). e.graph.spare_edges) engine in omega (arith, b, few, z);
+        changes = let z = ap (λ b. b.spare) births in omega (arith, c, few, z);
+        nodes = let z = ap (λ (e : EngineView). node_count e.graph) engine in let w = ap (λ (e : EngineView). e.room) engine in omega (arith, d, few, z, w);
+      }
+
+  pub again_provided : (p : ℕ) → new.ledger.queue.releases ≡ map (after_change p) old.ledger.queue.releases → IsProvided old → IsProvided new
+  again_provided p e = queue_provided
+      (λ q. let x = ap (λ (l : List Release). held_for_all l q) e in let y = held_changed p old.ledger.queue.releases q in omega (arith, x, y))
+      (let x = ap (λ (l : List Release). length l) e in let y = length-map old.ledger.queue.releases (after_change p) in omega (arith, x, y))
+
+  pub look_provided : (i : ℕ) → new.ledger.queue.releases ≡ unmarked i old.ledger.queue.releases → IsProvided old → IsProvided new
+  look_provided i e = queue_provided
+      (λ q. let x = ap (λ (l : List Release). held_for_all l q) e in let y = held_unmarked i old.ledger.queue.releases q in omega (arith, x, y))
+      (let x = ap (λ (l : List Release). length l) e in let y = length_unmarked i old.ledger.queue.releases in omega (arith, x, y))
+
+  pub out_provided : (i : ℕ) (r : Release) → slice_get old.ledger.queue.releases i ≡ Some r → new.ledger.queue.releases ≡ remove old.ledger.queue.releases i → IsProvided old → IsProvided new
+  out_provided i r at e = queue_provided
+      (λ q. let x = ap (λ (l : List Release). held_for_all l q) e in let y = held_removed old.ledger.queue.releases i r q at in omega (arith, x, y))
+      (let x = ap (λ (l : List Release). length l) e in let y = length_removed old.ledger.queue.releases i r at in omega (arith, x, y))
+
+  pub out_left : (i : ℕ) (r : Release) → slice_get old.ledger.queue.releases i ≡ Some r → new.ledger.queue.releases ≡ remove old.ledger.queue.releases i → IsProvided old
+      → (q : ℕ) → held_for_all new.ledger.queue.releases q + held_for r q ≤ holds_in new.engine.cache q
+  out_left i r at e p q =
+      let x = ap (λ (l : List Release). held_for_all l q) e in let y = held_removed old.ledger.queue.releases i r q at in let z = ap (λ (v : EngineView). holds_in v.cache q) engine in let w = p.holds_owed q in
+      omega (arith, x, y, z, w)
+
+-- a block that took another name owes a release of the old one, if there was one
+module _ (block p : ℕ) (old new : Core) (k : NamesBlock block p old new) where
+  abbrev more : Release
+  more = release_of old.shape block (named_in old block) (is_name_unborn old block)
+
+  releases_are : new.ledger.queue.releases ≡ owed old.shape (is_name_unborn old block) block (named_in old block) old.ledger.queue.releases
+  releases_are = ap (λ (l : Ledger). l.queue.releases) k.ledger
+
+  pub named_some : (named_in old block ≡ 0 → ⊥) → (q : ℕ) → held_for_all new.ledger.queue.releases q ≡ held_for_all old.ledger.queue.releases q + held_for more q
+  named_some ne q = ap (λ (l : List Release). held_for_all l q) (releases_are ∙ owed_some old.shape (is_name_unborn old block) block (named_in old block) old.ledger.queue.releases ne) ∙ held_pushed old.ledger.queue.releases more q
+
+  pub named_none : named_in old block ≡ 0 → new.ledger.queue.releases ≡ old.ledger.queue.releases
+  named_none e = releases_are ∙ owed_none old.shape (is_name_unborn old block) block (named_in old block) old.ledger.queue.releases e
+
+  pub named_length : length new.ledger.queue.releases ≤ length old.ledger.queue.releases + 1
+  named_length = elim (cases_eq (named_in old block) 0) [
+    | inl z ↦ let e = ap (λ (l : List Release). length l) (named_none z) in omega (arith, e)
+    | inr ne ↦
+        let e = ap (λ (l : List Release). length l) (releases_are ∙ owed_some old.shape (is_name_unborn old block) block (named_in old block) old.ledger.queue.releases ne) in
+        let n = length-append old.ledger.queue.releases (more ∷ []) in
+        omega (arith, e, n)
+  ]

@@ -28,7 +28,7 @@ use Rattle.store_core.proofs.Disk.{barrier_done, barrier_failed, write_done, wri
 use Rattle.store_core.proofs.Stood.{stands_then}
 use Rattle.store_core.proofs.Worlds.{fixed_world, same_world, taken_world, written_world}
 
-ready_in : (d : Meaning) (core : Core) (page : ℕ) → is_ready core.engine.graph page ≡ true → IsReady (world_of d core) page
+pub ready_in : (d : Meaning) (core : Core) (page : ℕ) → is_ready core.engine.graph page ≡ true → IsReady (world_of d core) page
 ready_in d core page r = let still = not-true _ (and_parts _ _ r).1 in record {
   dirty = (and_parts _ _ r).0;
   no_live = λ a. elim (cases_Bool ((world_of d core).live a page)) [

@@ -12,6 +12,7 @@ use Rattle.engine_model.specs.AnyDevice.{IsOrdered}
 use Rattle.store_core.specs.declared.Core.{Core}
 use Rattle.store_core.specs.Applied.{is_last_print}
 use Rattle.store_core.specs.Layout.{lay_of}
+use Rattle.store_core.specs.Owed.{IsProvided}
 use Rattle.store_core.specs.Views.{page_in, world_of}
 
 -- A release whose map page was not written since has it dirty, and one whose map page was written and not fixed has it hung.
@@ -53,3 +54,15 @@ pub record IsOrderlyBut (p : ℕ) (core : Core) : Type 0 where
   pub ordered : (d : Meaning) → IsOrdered (lay_of core.shape) (world_of d core)
   pub looked : All (IsLookedBut p core) core.ledger.queue.releases
   pub formed : AreFormed core
+
+-- what is in order but for the releases of a page stays so
+abbrev pub KeepsOrderBut : ℕ → Core → Core → Type 0
+KeepsOrderBut p old new = IsOrderlyBut p old → IsOrderlyBut p new
+
+-- as far as its releases hold their pages
+abbrev pub KeepsOrderly : Core → Core → Type 0
+KeepsOrderly old new = (p : ℕ) → IsProvided old → KeepsOrderBut p old new
+
+-- each Live edge stood before
+abbrev pub FewerEdges : Core → Core → Type 0
+FewerEdges old new = (a b : ℕ) → live_in new.engine.graph a b ≡ true → live_in old.engine.graph a b ≡ true

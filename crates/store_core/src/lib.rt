@@ -36,11 +36,13 @@ pub use ledger::Ledger;
 pub use opening::opened;
 pub use orderly::{
     but_for_none, data_is_orderly, entries_are_orderly, marks_are_orderly, quiet_is_orderly,
+    releases_are_orderly,
 };
 use page_layout::Shape;
 pub use placing::given_page_is_free;
 pub use provided::{
-    applied_is_provided, holds_move, owed_pages_are_held, reserved_is_enough, stays_provided,
+    applied_is_provided, holds_move, name_owes, owed_pages_are_held, queue_is_provided,
+    reserved_is_enough, stays_provided, steps_spend,
 };
 pub use room::NoRoom;
 pub use tables::{TableError, tables_are_whole};

@@ -1,23 +1,26 @@
 // Marks, edges, queue and tables, over what leaves them in order.
-ghost use Rattle.std.specs.Prelude.{◌≡◌, ◌<◌, ◌≤◌, ℕ, List, Option, true, cond, map};
+ghost use Rattle.std.specs.Prelude.{◌≡◌, ◌<◌, ◌≤◌, ℕ, List, Option, Some, true, cond, map, remove, slice_get};
 ghost use Rattle.page_device.specs.Meaning.{Meaning};
 ghost use Rattle.page_layout.specs.Shape.{count_page, data_page, map_page, print_page};
 ghost use Rattle.page_cache.specs.View.{content_in, holds_in};
 ghost use Rattle.dep_graph.specs.Lists.{dirty_in, entered};
 ghost use Rattle.ref_counts.specs.Counts.{count_in};
-ghost use Rattle.release_queue.specs.Queued.{after_change};
+ghost use Rattle.release_queue.specs.Queued.{after_change, unmarked};
+ghost use Rattle.release_queue.specs.declared.Release.{Release};
 ghost use Rattle.flush_engine.specs.Edits.{GivenUp, Ordered};
 ghost use Rattle.engine_model.specs.Entries.{EdgeKind};
 ghost use Rattle.engine_model.specs.SmallSteps.{given_up, ordered_after, ordered_by_barrier, touched};
 ghost use Rattle.store_core.specs.declared.Core.{Core};
-ghost use Rattle.store_core.specs.Edits.{Barred, Makes, NamesBlock, RaisesCount, named_in};
+ghost use Rattle.store_core.specs.Applied.{AppliesRelease, CanApply};
+ghost use Rattle.store_core.specs.Edits.{Barred, LowersCount, Makes, NamesBlock, RaisesCount, named_in};
 ghost use Rattle.store_core.specs.Frames.{OnlyEngine, SameHolds};
 ghost use Rattle.store_core.specs.Layout.{lay_of, top};
-ghost use Rattle.store_core.specs.Orderly.{AreFormed, IsOrderly, IsOrderlyBut, OnlyCame};
+ghost use Rattle.store_core.specs.Orderly.{AreFormed, HasToWait, IsOrderly, IsOrderlyBut, KeepsOrderBut, OnlyCame};
 ghost use Rattle.store_core.specs.Owed.{IsProvided};
 ghost use Rattle.store_core.specs.Printed.{PrintsPage};
 ghost use Rattle.store_core.specs.Quiet.{GivesBack, Quiet};
 ghost use Rattle.store_core.specs.Views.{page_in};
+ghost use Rattle.store_core.specs.Whole.{IsPlaced};
 
 /// A core that is in order is so but for the releases of any page. There is no page 0, so all that is kept but for its releases is
 /// kept of each release: the laws below are said but for one page, and serve with 0 where no release is left out.
@@ -66,4 +69,19 @@ pub fn entries_are_orderly()
     ensures again { (p : ℕ) (old new : Core)
         → new.ledger ≡ record old.ledger { queue = record old.ledger.queue { releases = map (after_change p) old.ledger.queue.releases } }
         → new.shape ≡ old.shape → new.engine ≡ old.engine → Makes (λ w. w) old new → IsOrderlyBut p old → IsOrderly new }
+{}
+
+/// A release that leaves the queue, lowered or not, and one that was looked at and has to wait leave the core in order. `but` is what
+/// the steps of a release that is applied leave for the releases of other pages; those of its own page had to wait for their map
+/// pages, or this one would have had to wait.
+pub fn releases_are_orderly()
+    ensures lower { (i : ℕ) (r : Release) (old new : Core) → slice_get old.ledger.queue.releases i ≡ Some r → IsPlaced old.shape r → 0 < holds_in old.engine.cache r.count_at
+        → LowersCount i r old new → KeepsOrderBut r.page old new }
+    ensures applied { (i : ℕ) (r : Release) (old new : Core) → CanApply i r old → IsPlaced old.shape r → AppliesRelease i r old new
+        → IsOrderly old → IsOrderlyBut r.page new → IsOrderly new }
+    ensures out { (old new : Core) → new.shape ≡ old.shape → new.engine ≡ old.engine → new.ledger.births ≡ old.ledger.births → (i : ℕ) (r : Release)
+        → slice_get old.ledger.queue.releases i ≡ Some r → new.ledger.queue.releases ≡ remove old.ledger.queue.releases i → IsOrderly old → IsOrderly new }
+    ensures look { (old new : Core) → new.shape ≡ old.shape → new.engine ≡ old.engine → new.ledger.births ≡ old.ledger.births → (i : ℕ)
+        → new.ledger.queue.releases ≡ unmarked i old.ledger.queue.releases → ((r : Release) → slice_get old.ledger.queue.releases i ≡ Some r → HasToWait old r)
+        → IsOrderly old → IsOrderly new }
 {}

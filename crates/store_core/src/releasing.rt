@@ -17,6 +17,7 @@ impl Core {
     ghost use Rattle.store_core.specs.Edits.{Makes};
     ghost use Rattle.store_core.specs.Frames.{KeepsStands, OnlyEngine};
     ghost use Rattle.store_core.specs.Moments.{AppliesByLaws, ClearsByLaws, GivesUpByLaws, LeavesByLaws, LowersByLaws};
+    ghost use Rattle.store_core.specs.Orderly.{IsOrderly, KeepsOrderBut};
     ghost use Rattle.store_core.specs.Placed.{DropStands};
     ghost use Rattle.store_core.specs.Whole.{IsPlaced};
 
@@ -38,6 +39,7 @@ impl Core {
         ensures cache { self.new.engine.cache ≡ self.old.engine.cache }
         ensures rest { OnlyEngine self.old self.new }
         ensures stands { KeepsStands self.old self.new }
+        ensures in_order { KeepsOrderBut release.page self.old self.new }
     {
         if release.stage == NOT_WRITTEN {
             self.order(release.map_at, release.count_at);
@@ -64,6 +66,7 @@ impl Core {
         ensures cache { self.new.engine.cache ≡ self.old.engine.cache }
         ensures rest { OnlyEngine self.old self.new }
         ensures stands { KeepsStands self.old self.new }
+        ensures in_order { KeepsOrderBut release.page self.old self.new }
     {
         let unborn = self.ledger.births.unborn(Slot::Print(release.page), 1);
         if unborn {
@@ -88,6 +91,7 @@ impl Core {
         ensures cleared { ClearsPrint release self.old self.new }
         ensures laws { ClearsByLaws release.page self.old self.new }
         ensures stands { KeepsStands self.old self.new }
+        ensures in_order { KeepsOrderBut release.page self.old self.new }
     {
         self.touch(release.print_at);
         self.order_print(release);
@@ -108,6 +112,7 @@ impl Core {
         ensures cleared { ClearsPrint release self.old self.new }
         ensures laws { ClearsByLaws release.page self.old self.new }
         ensures stands { KeepsStands self.old self.new }
+        ensures in_order { KeepsOrderBut release.page self.old self.new }
     {
         let count = self.count_of(release.page);
         if count != 1 {
@@ -126,6 +131,7 @@ impl Core {
         ensures lowered { LowersRelease i release self.old self.new }
         ensures laws { LowersByLaws i release self.old self.new }
         ensures stands { KeepsStands self.old self.new }
+        ensures in_order { KeepsOrderBut release.page self.old self.new }
     {
         self.touch(release.count_at);
         self.order_release(release);
@@ -152,6 +158,7 @@ impl Core {
         ensures lost { LosesContent release self.old self.new }
         ensures laws { GivesUpByLaws release.page self.old self.new }
         ensures stands { KeepsStands self.old self.new }
+        ensures in_order { KeepsOrderBut release.page self.old self.new }
     {
         let count = self.count_of(release.page);
         if count != 0 {
@@ -172,6 +179,7 @@ impl Core {
         ensures applied { AppliesRelease i release self.old self.new }
         ensures laws { AppliesByLaws i release self.old self.new }
         ensures stands { KeepsStands self.old self.new }
+        ensures orderly { IsOrderly self.old → IsOrderly self.new }
     {
         self.lower_release(i, release);
         self.lose_content(release);
@@ -188,6 +196,7 @@ impl Core {
         ensures engine { self.new.engine ≡ self.old.engine }
         ensures laws { (r : Release) → slice_get self.old.ledger.queue.releases i ≡ Some r → LeavesByLaws i r self.old self.new }
         ensures stands { KeepsStands self.old self.new }
+        ensures orderly { IsOrderly self.old → IsOrderly self.new }
     {
         let _ = self.ledger.queue.remove(i);
     }

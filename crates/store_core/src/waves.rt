@@ -9,6 +9,7 @@ impl Core {
     ghost use Rattle.flush_engine.specs.Flush.{FlushEnds};
     ghost use Rattle.flush_engine.specs.Waves.{WavesEnd};
     ghost use Rattle.store_core.specs.Ledger.{ledger_told};
+    ghost use Rattle.store_core.specs.Orderly.{FewerEdges, KeepsOrderly};
     ghost use Rattle.store_core.specs.Quiet.{Flows};
     ghost use Rattle.store_core.specs.Views.{lent};
 
@@ -22,6 +23,8 @@ impl Core {
         requires room { total self.old.shape ≤ (D.seen device.old).pages }
         ensures settle { WavesEnd ledger_told (Some page) result (lent (D.seen device.old) self.old) (lent (D.seen device.new) self.new) }
         ensures flows { Flows (D.seen device.old) (D.seen device.new) self.old self.new }
+        ensures orderly { KeepsOrderly self.old self.new }
+        ensures fewer { FewerEdges self.old self.new }
         ensures cause { HasCause result (D.seen device.old) (D.seen device.new) }
     {
         self.engine.settle(device, page, &mut self.ledger)
@@ -36,6 +39,8 @@ impl Core {
         requires room { total self.old.shape ≤ (D.seen device.old).pages }
         ensures flush { FlushEnds ledger_told result (lent (D.seen device.old) self.old) (lent (D.seen device.new) self.new) }
         ensures flows { Flows (D.seen device.old) (D.seen device.new) self.old self.new }
+        ensures orderly { KeepsOrderly self.old self.new }
+        ensures fewer { FewerEdges self.old self.new }
         ensures cause { HasCause result (D.seen device.old) (D.seen device.new) }
     {
         self.engine.flush_all(device, &mut self.ledger)

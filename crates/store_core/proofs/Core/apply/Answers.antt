@@ -4,6 +4,8 @@ use Rattle.store_core.specs.Whole.{IsPlaced}
 use Rattle.store_core.proofs.AppliedLaws.{laws_compose}
 use Rattle.store_core.proofs.Queued.{placed_at}
 use Rattle.store_core.proofs.Released.{applies_release}
+use Rattle.store_core.proofs.OrderlyReleases.{applied_orderly}
+use Rattle.store_core.proofs.OrderlySteps.{orderly_but}
 use Rattle.store_core.proofs.Core.apply.Goals as goal
 
 pub lose_content-requires-clause-placed : goal.lose_content-requires-clause-placed
@@ -22,3 +24,10 @@ returns-clause-laws c = laws_compose c.args.self.now c.lower_release.new.self c.
 
 pub returns-clause-stands : goal.returns-clause-stands
 returns-clause-stands c = λ sound d array s. c.lose_content.ensures.stands sound d array (c.lower_release.ensures.stands sound d array s)
+
+pub returns-clause-orderly : goal.returns-clause-orderly
+returns-clause-orderly c o =
+    let core = c.args.self.now in
+    let r = c.args.release in
+    applied_orderly c.args.i r core c.lose_content.new.self c.requires (placed_at core.shape core.ledger.queue.releases c.args.i r c.requires.queued core.whole.placed) (returns-clause-applied c) o
+    (c.lose_content.ensures.in_order (c.lower_release.ensures.in_order (orderly_but r.page core o)))

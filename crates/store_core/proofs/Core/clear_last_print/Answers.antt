@@ -73,3 +73,9 @@ returns-in-None-clause-laws c =
 
 pub returns-in-None-clause-stands : goal.returns-in-None-clause-stands
 returns-in-None-clause-stands c = λ sound d array s. s
+
+pub returns-then-count-ne1-clause-in_order : goal.returns-then-count-ne1-clause-in_order
+returns-then-count-ne1-clause-in_order c o = o
+
+pub returns-in-None-clause-in_order : goal.returns-in-None-clause-in_order
+returns-in-None-clause-in_order c o = o

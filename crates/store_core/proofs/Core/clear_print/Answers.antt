@@ -1,4 +1,4 @@
-use Rattle.std.proofs.Common.{arith, ◌≡◌, ◌<◌, ◌≤◌, ◌∙◌, inl, inr, refl, sym, ap, subst, ℕ, true, eq-eqb}
+use Rattle.std.proofs.Common.{arith, ◌≡◌, ◌<◌, ◌≤◌, ◌∙◌, inl, inr, refl, sym, ap, subst, ℕ, true, eq-eqb, None}
 use Rattle.std.proofs.lemmas.Bool.{or_left, or_right}
 use Rattle.page_device.specs.Block.{zero_block}
 use Rattle.page_layout.specs.Shape.{ShapeView}
@@ -13,6 +13,8 @@ use Rattle.store_core.specs.Whole.{IsPlaced}
 use Rattle.store_core.proofs.AppliedLaws.{print_cleared, print_ordered}
 use Rattle.store_core.proofs.AppliedStands.{clear_stands, clears_print, print_table}
 use Rattle.store_core.proofs.Edited.{held_there}
+use Rattle.store_core.proofs.OrderlyEdits.{print_orderly}
+use Rattle.store_core.proofs.OrderlySteps.{touch_orderly}
 use Rattle.store_core.proofs.Core.clear_print.Goals as goal
 
 pub order_print-requires-clause-placed : goal.order_print-requires-clause-placed
@@ -81,3 +83,14 @@ returns-clause-laws c =
     let some = c.requires.held in
     print_cleared core c.order_print.new.self c.set_print.new.self r c.requires.placed (o.rest.shape ∙ t.rest.shape) (o.rest.ledger ∙ t.rest.ledger) c.requires.count_held some
     (held_there c.order_print.new.self.engine.cache r.print_at (omega (arith, is, some))) (o.grows.dirty r.print_at (t.dirty r.print_at ∙ or_right _ _ (eq-eqb r.print_at r.print_at refl))) c.requires.one c.requires.had (print_ordered core c.touch.new.self c.order_print.new.self r t.world t.rest.ledger o.world) c.set_print.ensures.printed
+
+pub returns-clause-in_order : goal.returns-clause-in_order
+returns-clause-in_order c o =
+    let r = c.args.release in
+    let t = c.touch.ensures in
+    let there = subst (λ (x : ShapeView). IsPlaced x r) (sym (c.order_print.ensures.rest.shape ∙ t.rest.shape)) c.requires.placed in
+    let is = ap (λ (k : CacheView). holds_in k r.print_at) c.order_print.ensures.cache ∙ t.same.holds r.print_at in
+    let some = c.requires.held in
+    let held = subst (λ (n : ℕ). 0 < holds_in c.order_print.new.self.engine.cache n) there.print_at (omega (arith, is, some)) in
+    print_orderly r.page c.order_print.new.self c.set_print.new.self there.first there.last None held c.set_print.ensures.printed
+    (c.order_print.ensures.in_order (touch_orderly r.page c.args.self.now c.touch.new.self r.print_at t.world t.graph t.rest t.same t.pages o))

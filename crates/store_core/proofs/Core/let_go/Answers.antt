@@ -6,6 +6,7 @@ use Rattle.release_queue.specs.Queued.{QueueLists}
 use Rattle.store_core.specs.Whole.{IsPlaced}
 use Rattle.store_core.proofs.AppliedLaws.{leaves_queue, leaves_stands}
 use Rattle.store_core.proofs.Queued.{placed_at, placed_removed}
+use Rattle.store_core.proofs.OrderlyReleases.{out_orderly}
 use Rattle.store_core.proofs.Core.let_go.Goals as goal
 
 pub invariant_of-self : goal.invariant_of-self
@@ -33,3 +34,10 @@ returns-clause-stands c =
     let r = c.remove.result in
     let at : slice_get core.ledger.queue.releases c.args.i ≡ Some r = slice_get_read core.ledger.queue.releases (length core.ledger.queue.releases) c.args.i r refl c.requires.queued c.remove.ensures.release in
     leaves_stands core _ c.args.i r at (placed_at core.shape core.ledger.queue.releases c.args.i r at core.whole.placed) (c.requires.held r at) (c.requires.none r at)
+
+pub returns-clause-orderly : goal.returns-clause-orderly
+returns-clause-orderly c =
+    let core = c.args.self.now in
+    let r = c.remove.result in
+    let at : slice_get core.ledger.queue.releases c.args.i ≡ Some r = slice_get_read core.ledger.queue.releases (length core.ledger.queue.releases) c.args.i r refl c.requires.queued c.remove.ensures.release in
+    out_orderly core _ refl refl refl c.args.i r at (ap (λ (q : QueueLists). q.releases) c.remove.ensures.others)

@@ -9,6 +9,7 @@ use Rattle.store_core.proofs.AppliedLaws.{goes_away, stays_there}
 use Rattle.store_core.proofs.AppliedStands.{never_both}
 use Rattle.store_core.proofs.Moved.{count_cached}
 use Rattle.store_core.proofs.Released.{content_lost, content_stays}
+use Rattle.store_core.proofs.OrderlyEdits.{give_up_orderly}
 use Rattle.store_core.proofs.Core.lose_content.Goals as goal
 
 pub returns-then-loose-clause-lost : goal.returns-then-loose-clause-lost
@@ -32,3 +33,13 @@ returns-then-loose-clause-stands c = λ sound d array s.
     let r = c.args.release in
     let none : count_of_release core r ≡ 0 = ap (λ (n : ℕ). count_in (page_in core n) r.page) c.requires.placed.count_at ∙ sym c.count_of-count.ensures ∙ c.if-count-ne0.false in
     c.give_up.ensures.stands sound d array s (count_cached d core r c.requires.placed c.requires.held ∙ none)
+
+pub returns-then-loose-clause-in_order : goal.returns-then-loose-clause-in_order
+returns-then-loose-clause-in_order c = let g = c.give_up.ensures in
+    give_up_orderly c.args.release.page c.args.release.page c.args.self.now c.give_up.new.self c.requires.placed.first c.requires.placed.last g.rest g.world g.given_up
+
+pub returns-then-count-ne0-clause-in_order : goal.returns-then-count-ne0-clause-in_order
+returns-then-count-ne0-clause-in_order c o = o
+
+pub returns-else-loose-clause-in_order : goal.returns-else-loose-clause-in_order
+returns-else-loose-clause-in_order c o = o

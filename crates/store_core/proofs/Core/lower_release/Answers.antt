@@ -11,6 +11,8 @@ use Rattle.store_core.specs.Whole.{IsPlaced}
 use Rattle.store_core.proofs.AppliedLaws.{release_lowered}
 use Rattle.store_core.proofs.AppliedStands.{apply_stands, count_dirty, count_page_same, count_table, lowers_release, one_change, one_edge, one_node, one_room, opens_map, opens_print, some_edges, some_held, still_dirty, still_held}
 use Rattle.store_core.proofs.Queued.{placed_at}
+use Rattle.store_core.proofs.OrderlyReleases.{lower_orderly}
+use Rattle.store_core.proofs.OrderlySteps.{touch_orderly}
 use Rattle.store_core.proofs.Core.lower_release.Goals as goal
 
 pub touch-requires-clause-spare : goal.touch-requires-clause-spare
@@ -104,3 +106,18 @@ returns-clause-laws c =
     (λ q h. t.dirty q ∙ or_left _ _ h) (λ q. ap (λ (g : GraphLists). hung_in g q) t.graph) o.world
     (o.rest.shape ∙ t.rest.shape) (o.rest.ledger ∙ t.rest.ledger) (cleared.shape ∙ o.rest.shape ∙ t.rest.shape) (cleared.queue ∙ ap (λ (l : Ledger). l.queue) (o.rest.ledger ∙ t.rest.ledger))
     held (cleared.grows.dirty r.count_at (o.grows.dirty r.count_at (count_dirty core c.touch.new.self c.args.i r c.requires t.graph))) count c.clear_last_print.ensures.laws c.lower_count.ensures.lowered
+
+pub returns-clause-in_order : goal.returns-clause-in_order
+returns-clause-in_order c was =
+    let core = c.args.self.now in
+    let r = c.args.release in
+    let e = c.clear_last_print.new.self in
+    let t = c.touch.ensures in
+    let shape = c.clear_last_print.ensures.cleared.shape ∙ c.order_release.ensures.rest.shape ∙ t.rest.shape in
+    let o = c.order_release.ensures in
+    let cleared = c.clear_last_print.ensures.cleared in
+    let placed = placed_at core.shape core.ledger.queue.releases c.args.i r c.requires.queued core.whole.placed in
+    let queued = subst (λ (q : QueueLists). slice_get q.releases c.args.i ≡ Some r) (sym (cleared.queue ∙ ap (λ (l : Ledger). l.queue) (o.rest.ledger ∙ t.rest.ledger))) c.requires.queued in
+    let held = some_held core c.touch.new.self c.order_release.new.self e e c.args.i r c.requires placed t.graph t.same t.pages t.rest o.ordered o.grows o.cache o.rest cleared r.count_at c.requires.count_held in
+    lower_orderly c.args.i r e c.lower_count.new.self queued (subst (λ (x : ShapeView). IsPlaced x r) (sym shape) placed) held c.lower_count.ensures.lowered
+    (c.clear_last_print.ensures.in_order (c.order_release.ensures.in_order (touch_orderly r.page core c.touch.new.self r.count_at t.world t.graph t.rest t.same t.pages was)))

@@ -3,6 +3,7 @@ use Rattle.flush_engine.specs.View.{EngineView}
 use Rattle.store_core.proofs.AppliedStands.{print_kind}
 use Rattle.store_core.proofs.Grown.{grows_none, grows_ordered, now_ordered, takes_more, takes_none, takes_ordered}
 use Rattle.store_core.proofs.Moved.{unborn_edge, born_edge}
+use Rattle.store_core.proofs.OrderlySteps.{order_orderly}
 use Rattle.store_core.proofs.Core.order_print.Goals as goal
 
 pub returns-then-unborn-clause-ordered : goal.returns-then-unborn-clause-ordered
@@ -55,3 +56,10 @@ returns-clause-cache c = ap (λ (e : EngineView). e.cache) c.order.ensures.other
 
 pub returns-clause-stands : goal.returns-clause-stands
 returns-clause-stands c = c.order.ensures.stands (print_kind c.args.self.now.shape c.args.release c.requires.placed)
+
+pub returns-then-unborn-clause-in_order : goal.returns-then-unborn-clause-in_order
+returns-then-unborn-clause-in_order c o = o
+
+pub returns-clause-in_order : goal.returns-clause-in_order
+returns-clause-in_order c = let o = c.order.ensures in
+    order_orderly c.args.release.page c.args.self.now c.order.new.self c.args.release.print_at c.args.release.count_at o.world (print_kind c.args.self.now.shape c.args.release c.requires.placed) o.ordered o.others o.rest

@@ -3,6 +3,7 @@ use Rattle.flush_engine.specs.View.{EngineView}
 use Rattle.store_core.proofs.AppliedStands.{release_kind}
 use Rattle.store_core.proofs.Grown.{grows_barred, grows_none, grows_ordered, map_barred, map_none, map_ordered, takes_barred, takes_more, takes_none, takes_ordered}
 use Rattle.store_core.proofs.Moved.{edge_barred, edge_live, edge_none}
+use Rattle.store_core.proofs.OrderlySteps.{bar_orderly, order_orderly}
 use Rattle.store_core.proofs.Core.order_release.Goals as goal
 
 pub order-requires-clause-opens : goal.order-requires-clause-opens
@@ -79,3 +80,14 @@ returns-else-release-eq-WRITTEN-clause-rest c = record { shape = refl; ledger = 
 
 pub returns-else-release-eq-WRITTEN-clause-stands : goal.returns-else-release-eq-WRITTEN-clause-stands
 returns-else-release-eq-WRITTEN-clause-stands c = λ sound d array s. s
+
+pub returns-then-release-eq-NOT_WRITTEN-clause-in_order : goal.returns-then-release-eq-NOT_WRITTEN-clause-in_order
+returns-then-release-eq-NOT_WRITTEN-clause-in_order c = let o = c.order.ensures in
+    order_orderly c.args.release.page c.args.self.now c.order.new.self c.args.release.map_at c.args.release.count_at o.world (release_kind c.args.self.now.shape c.args.release c.requires.placed) o.ordered o.others o.rest
+
+pub returns-then-release-eq-WRITTEN-clause-in_order : goal.returns-then-release-eq-WRITTEN-clause-in_order
+returns-then-release-eq-WRITTEN-clause-in_order c = let o = c.order_by_barrier.ensures in
+    bar_orderly c.args.release.page c.args.self.now c.order_by_barrier.new.self c.args.release.map_at c.args.release.count_at o.world (release_kind c.args.self.now.shape c.args.release c.requires.placed) o.barred o.others o.rest
+
+pub returns-else-release-eq-WRITTEN-clause-in_order : goal.returns-else-release-eq-WRITTEN-clause-in_order
+returns-else-release-eq-WRITTEN-clause-in_order c o = o

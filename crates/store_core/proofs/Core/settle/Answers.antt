@@ -1,4 +1,5 @@
 use Rattle.store_core.specs.Views.{lent}
+use Rattle.store_core.proofs.OrderlyFlows.{call_orders}
 use Rattle.store_core.proofs.Going.{call_goes, core_fits}
 use Rattle.store_core.proofs.Core.settle.Goals as goal
 
@@ -10,3 +11,9 @@ invariant_of-self g c = record { whole = (call_goes c.args.self.now.shape c.sett
 
 pub returns-clause-flows : goal.returns-clause-flows
 returns-clause-flows g c = (call_goes c.args.self.now.shape c.settle.result _ _ c.settle.ensures.steps).flows c.requires.room c.args.self.now.whole _
+
+pub returns-clause-orderly : goal.returns-clause-orderly
+returns-clause-orderly g c = (call_orders c.args.self.now.shape c.settle.result _ _ c.settle.ensures.steps).orderly c.requires.room c.args.self.now.whole _
+
+pub returns-clause-fewer : goal.returns-clause-fewer
+returns-clause-fewer g c = (call_orders c.args.self.now.shape c.settle.result _ _ c.settle.ensures.steps).fewer
