@@ -67,6 +67,7 @@ impl Core {
     /// Whether a Live edge from one page to the other would close a cycle. It costs what the graph's `closes` does.
     pub fn closes(&mut self, before: u32, after: u32) -> bool
         ensures closes { (result ≡ true) ↔ Closes (live_in self.old.engine.graph) before after }
+        ensures same { self.new ≡ self.old }
         ensures quiet { (d : Meaning) → Quiet none d d self.old self.new }
     {
         closes_in(&mut self.engine, before, after)
@@ -84,7 +85,7 @@ impl Core {
     fn has_place(&self, nodes: u32) -> bool
         ensures place { result ≡ true → eqb (length self.now.ledger.queue.releases) self.now.ledger.queue.limit ≡ false }
         ensures within { result ≡ true → node_count self.now.engine.graph + (nodes + 2 * owed self.now) ≤ self.now.engine.room }
-        ensures crowded { result ≡ false → IsCrowded nodes self.now }
+        ensures crowded { (result ≡ false) ↔ IsCrowded nodes self.now }
     {
         if self.ledger.queue.full() {
             return false;
@@ -102,7 +103,7 @@ impl Core {
     pub fn reserve(&mut self, nodes: u32, edges: u32, changes: u32) -> Result<(), NoRoom>
         ensures ok { OnOk result (HasRoom nodes edges changes self.new) }
         ensures quiet { (d : Meaning) → Quiet none d d self.old self.new }
-        ensures full { result ≡ Err Full → IsCrowded nodes self.old }
+        ensures full { (result ≡ Err Full) ↔ IsCrowded nodes self.old }
     {
         if !self.has_place(nodes) {
             return Err(NoRoom::Full);
