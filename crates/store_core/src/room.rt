@@ -104,6 +104,7 @@ impl Core {
         ensures ok { OnOk result (HasRoom nodes edges changes self.new) }
         ensures quiet { (d : Meaning) → Quiet none d d self.old self.new }
         ensures full { (result ≡ Err Full) ↔ IsCrowded nodes self.old }
+        ensures cache { self.new.engine.cache ≡ self.old.engine.cache }
     {
         if !self.has_place(nodes) {
             return Err(NoRoom::Full);
@@ -125,6 +126,7 @@ impl Core {
         ensures quiet { (d : Meaning) → Quiet none d d self.old self.new }
         ensures ok { OnOk result (IsReserved all self.new) }
         ensures err { result ≡ Err Full → ⊥ }
+        ensures cache { self.new.engine.cache ≡ self.old.engine.cache }
     {
         match self.ledger.births.reserve(all.changes) {
             Ok(()) => {}
