@@ -1,5 +1,5 @@
 -- A release that is applied, by the laws of the plain state.
-use Rattle.std.proofs.Common.{arith, ◌≡◌, ◌⊎◌, inl, inr, ◌<◌, ◌≤◌, ◌+◌, ◌-◌, ℕ, zero, suc, Bool, true, false, cond, refl, sym, ap, ◌∙◌, subst, List, [], ◌∷◌, ◌++◌, Option, Some, None, map, take, drop, eqb, eq-eqb}
+use Rattle.std.proofs.Common.{arith, ◌≡◌, ◌↔◌, inl, inr, ◌<◌, ◌≤◌, ◌+◌, ◌-◌, ℕ, zero, suc, Bool, true, false, cond, refl, sym, ap, ◌∙◌, subst, List, [], ◌∷◌, ◌++◌, Some, None, map, take, drop, eqb, eq-eqb}
 use Rattle.std.specs.Prelude.{slice_get}
 use Rattle.std.proofs.lemmas.Bool.{cases_Bool}
 use Rattle.std.proofs.lemmas.List.{map-append}
@@ -10,19 +10,20 @@ use Rattle.page_layout.specs.Tables.{print_entry_of}
 use Rattle.page_cache.specs.View.{holds_in, is_there}
 use Rattle.order_model.specs.Pool.{Told}
 use Rattle.order_model.specs.World as plain
-use Rattle.order_model.specs.World.{IsData, Queued, World, queued}
+use Rattle.order_model.specs.World.{Queued, World, queued}
 use Rattle.dep_graph.specs.Lists.{dirty_in, hung_in, live_in, waits_in}
 use Rattle.dep_graph.proofs.ReadyLemmas.{none_waits}
 use Rattle.order_model.specs.declared.Slot.TheVariants.{Print}
 use Rattle.birth_marks.specs.Births.{Remembers, is_unborn_in, recorded_in, value_in}
 use Rattle.page_alloc.specs.Pool.{told_of}
 use Rattle.flush_engine.specs.View.{EngineView}
+use Rattle.release_queue.specs.Needed.{IsBlocked as IsBlockedInQueue}
 use Rattle.release_queue.specs.declared.Release.{Release}
 use Rattle.release_queue.specs.Queued.{QueueLists}
 use Rattle.engine_model.specs.Entries.{cached_count, cached_print}
 use Rattle.engine_model.specs.Invariant.{Moment, ToldZero, known_at}
 use Rattle.engine_model.specs.Releases.{IsBlocked}
-use Rattle.engine_model.specs.SmallPass.{Applies, Clears, ClearsLast, ClearsUnborn, GivenUp, GivesUp, Leaves, NothingToClear, StaysThere, map_edge, print_readied, readied}
+use Rattle.engine_model.specs.SmallPass.{Clears, ClearsLast, ClearsUnborn, GivenUp, GivesUp, NothingToClear, map_edge, print_readied, readied}
 use Rattle.engine_model.specs.SmallRuns.{in_state, with_print, with_release_out}
 use Rattle.engine_model.specs.SmallSteps.{SetsCount, SetsPrint, given_up, ordered, touched}
 use Rattle.store_core.specs.declared.Core.{Core}
@@ -33,12 +34,22 @@ use Rattle.store_core.specs.Whole.{IsPlaced}
 use Rattle.store_core.specs.Applied.{CanApply, count_of_release, has_print_of, is_last_print, is_print_unborn}
 use Rattle.store_core.specs.Edits.{LowersCount, Makes}
 use Rattle.store_core.specs.Frames.{KeepsStands}
-use Rattle.store_core.specs.Moments.{AppliesByLaws, ClearsByLaws, GivesUpByLaws, IsMomentOf, LeavesByLaws, LowersByLaws, Moves}
+use Rattle.store_core.specs.Moments.{AppliesByLaws, ClearsByLaws, GivesUpByLaws, IsMomentOf, LeavesByLaws, LowersByLaws}
 use Rattle.store_core.specs.Printed.{PrintsPage}
-use Rattle.store_core.proofs.Alike.{to_queue}
+use Rattle.store_core.proofs.Alike.{to_engine, to_queue}
 use Rattle.store_core.proofs.AppliedStands.{some_print}
-use Rattle.store_core.proofs.Moved.{Marks, count_cached, count_left, gone, is_given, is_gone, is_out, last_alike, marked, marks_edge, marks_ordered, marks_then, marks_touched, moment_of_parts, out, pool_left, print_cached, sets_left, sets_none, split_plain, staged_out, told_left, unborn_known}
+use Rattle.store_core.proofs.Moved.{Marks, count_cached, count_left, gone, is_given, is_gone, is_out, last_alike, marked, marks_edge, marks_ordered, marks_then, marks_touched, moment_of_parts, pool_left, print_cached, sets_left, sets_none, split_plain, staged_out, told_left, unborn_known}
 use Rattle.store_core.proofs.Queued.{queued_at}
+
+-- a release has to wait by the test of the queue where it is blocked at the moment
+pub blocked_alike_at : (d : Meaning) (core : Core) (m : Moment) (r : Release) → IsMomentOf d core m → IsPlaced core.shape r → 0 < holds_in core.engine.cache r.count_at → 0 < holds_in core.engine.cache r.print_at
+    → IsBlockedInQueue (live_in core.engine.graph) r (is_last_print core r) ↔ IsBlocked (lay_of core.shape) (known_at (lay_of core.shape) m) m.world (plain_release r)
+blocked_alike_at d core m r is placed count_held print_held =
+    let known = known_at (lay_of core.shape) m in
+    let last = last_alike d core m r is placed count_held print_held in (
+      λ h. subst (λ (w : World). IsBlocked (lay_of core.shape) known w (plain_release r)) is.world (to_engine core.shape known (world_of d core) r (is_last_print core r) placed last h),
+      λ h. to_queue core.shape known (world_of d core) r (is_last_print core r) placed last (subst (λ (w : World). IsBlocked (lay_of core.shape) known w (plain_release r)) (sym is.world) h),
+    )
 
 -- a queued release is counted among those of its page
 abbrev one_if : Bool → ℕ
@@ -106,7 +117,7 @@ module _ (a c n : Core) (r : Release) (placed : IsPlaced a.shape r) (shape : c.s
       let x = some_print (print_entry_of (page_in a r.print_at) (print_place r.page)) had in
       let some : cached_print lay m.world r.page ≡ Some x.0 = ap (λ (w : World). cached_print lay w r.page) (sym is.world) ∙ print_cached d a r placed held ∙ x.1 in
       let now : cached_count lay m.world r.page ≡ 1 = ap (λ (w : World). cached_count lay w r.page) (sym is.world) ∙ count_cached d a r placed held_count ∙ one in
-      let known = unborn_known d a m r is in
+      let known = unborn_known d a m r.page is in
       elim (cases_Bool (is_print_unborn a r)) [
         | inl unborn ↦
             let w = touched (print_page a.shape r.page) m.world in
@@ -184,8 +195,7 @@ module _ (a b c e n : Core) (i : ℕ) (r : Release) (can : CanApply i r a) (plac
     cleared_at d m is = subst (λ (x : ShapeView). (k : Moment) × IsMomentOf d e k × (k.array ≡ m.array) × ((count : ℕ) → count + 1 ≡ cached_count (lay_of x) m.world r.page → Clears (lay_of x) r.page count m k)) shape_c (clears d m is)
 
     not_blocked : (d : Meaning) (m : Moment) → IsMomentOf d a m → IsBlocked lay_a (known_at lay_a m) m.world (plain_release r) → ⊥
-    not_blocked d m is blocked = can.opens (to_queue a.shape (known_at lay_a m) (world_of d a) r (is_last_print a r) placed (last_alike d a m r is placed can.count_held can.print_held)
-        (subst (λ (w : World). IsBlocked lay_a (known_at lay_a m) w (plain_release r)) (sym is.world) blocked))
+    not_blocked d m is blocked = can.opens ((blocked_alike_at d a m r is placed can.count_held can.print_held).1 blocked)
 
     pub release_lowered : LowersByLaws i r a n
     release_lowered d m is =
@@ -218,10 +228,7 @@ module _ (a b c e n : Core) (i : ℕ) (r : Release) (can : CanApply i r a) (plac
           },
         )
 
--- the data page goes, or stays
-pub stays_there : (core : Core) (p : ℕ) → GivesUpByLaws p core core
-stays_there core p d m is = (m, is, refl, StaysThere refl)
-
+-- the data page goes
 pub goes_away : (old new : Core) (r : Release) → IsPlaced old.shape r → 0 < holds_in old.engine.cache r.count_at → count_of_release old r ≡ 0 → waits_in old.engine.graph (data_page old.shape r.page) ≡ false → new.shape ≡ old.shape → new.ledger ≡ old.ledger
     → Makes (given_up (data_page old.shape r.page)) old new → GivesUpByLaws r.page old new
 goes_away old new r placed held none alone shape ledger makes d m is = (

@@ -1,5 +1,5 @@
 -- A core that stands for an array is a moment, and a moment that keeps the invariant stands.
-use Rattle.std.proofs.Common.{◌≡◌, ◌<◌, ℕ, Bool, true, refl, sym, ap, ◌∙◌, subst, List}
+use Rattle.std.proofs.Common.{◌≡◌, ℕ, Bool, true, refl, sym, ◌∙◌, subst, List}
 use Rattle.page_device.specs.Block.{Block}
 use Rattle.page_device.specs.Meaning.{Meaning}
 use Rattle.page_layout.specs.Shape.{ShapeView}

@@ -1,7 +1,7 @@
 -- Moments that a core is after an edit.
-use Rattle.std.proofs.Common.{arith, ◌≡◌, ◌≢◌, ◌⊎◌, ◌↔◌, inl, inr, ◌<◌, ◌≤◌, ◌+◌, ◌-◌, ◌/◌, ◌%◌, ◌&&◌, ◌||◌, not, ℕ, suc, Bool, true, false, cond, refl, sym, ap, ◌∙◌, subst, List, [], ◌∷◌, ◌++◌, Option, Some, None, is_some, map, take, drop, eqb, eqb-true, eq-eqb, ne_eqb}
+use Rattle.std.proofs.Common.{arith, ◌≡◌, ◌≢◌, ◌↔◌, inl, inr, ◌<◌, ◌≤◌, ◌+◌, ◌-◌, ◌/◌, ◌%◌, ◌&&◌, ◌||◌, not, ℕ, suc, Bool, true, false, cond, refl, sym, ap, ◌∙◌, subst, List, [], ◌∷◌, ◌++◌, Option, Some, None, is_some, map, take, drop, eqb, eqb-true, eq-eqb, ne_eqb}
 use Rattle.std.specs.Prelude.{slice_get}
-use Rattle.std.proofs.lemmas.Bool.{and_from, and_parts, cases_Bool, cases_eq, not-true, or_left, or_right, true≢false}
+use Rattle.std.proofs.lemmas.Bool.{and_from, and_parts, cases_Bool, cases_eq, not-true, or_left, true≢false}
 use Rattle.std.proofs.lemmas.List.{map-append}
 use Rattle.page_device.specs.Block.{Block}
 use Rattle.page_device.specs.Meaning.{Meaning}
@@ -12,7 +12,7 @@ use Rattle.page_layout.proofs.FormedPages.{formed_count}
 use Rattle.page_cache.specs.View.{holds_in, is_there}
 use Rattle.order_model.specs.declared.Slot.{Slot}
 use Rattle.order_model.specs.declared.Slot.TheVariants.{Name, Print}
-use Rattle.order_model.specs.Calls.{Change, is_unborn, same_slot}
+use Rattle.order_model.specs.Calls.{same_slot}
 use Rattle.order_model.specs.Pool.{Told, after_zeroed}
 use Rattle.order_model.specs.World as plain
 use Rattle.order_model.specs.World.{IsData, Layout, Queued, World}
@@ -37,14 +37,14 @@ use Rattle.store_core.specs.declared.ledger.Ledger.{Ledger}
 use Rattle.store_core.specs.Layout.{lay_of, place_of}
 use Rattle.store_core.specs.Views.{page_in, plain_release, world_of}
 use Rattle.store_core.specs.Whole.{IsPlaced}
-use Rattle.store_core.specs.Applied.{count_of_release, has_print_of, is_last_print, is_print_unborn}
+use Rattle.store_core.specs.Applied.{count_of_release, is_last_print, is_print_unborn}
 use Rattle.store_core.specs.Edits.{LowersCount, Makes}
 use Rattle.store_core.specs.Moments.{AreStaged, IsMomentOf}
 use Rattle.store_core.specs.Printed.{PrintsPage}
 use Rattle.store_core.proofs.AppliedStands.{cached_held, some_print}
 use Rattle.store_core.proofs.Clean.{apart_pages}
 use Rattle.store_core.proofs.CountedStands.{sets_count}
-use Rattle.store_core.proofs.Edited.{cached_there, held_there}
+use Rattle.store_core.proofs.Edited.{cached_there}
 use Rattle.store_core.proofs.PrintedStands.{sets_print}
 use Rattle.store_core.proofs.Queued.{split_at}
 
@@ -154,8 +154,12 @@ pub print_cached : (d : Meaning) (core : Core) (r : Release) → IsPlaced core.s
     → cached_print (lay_of core.shape) (world_of d core) r.page ≡ print_entry_of (page_in core r.print_at) (print_place r.page)
 print_cached d core r placed held = ap (λ (c : Block). print_entry_of c (print_place r.page)) (cached_held core r.print_at (print_page core.shape r.page) placed.print_at held d)
 
-pub unborn_known : (d : Meaning) (core : Core) (m : Moment) (r : Release) → IsMomentOf d core m → is_print_unborn core r ≡ (known_at (lay_of core.shape) m).unborn_print r.page
-unborn_known d core m r is = unborn_remembered (place_of core.shape) core.ledger.births m.calls is.births (Print r.page) 1
+-- births answer as the moment knows
+pub unborn_known : (d : Meaning) (core : Core) (m : Moment) (p : ℕ) → IsMomentOf d core m → is_unborn_in core.ledger.births (Print p) 1 ≡ (known_at (lay_of core.shape) m).unborn_print p
+unborn_known d core m p is = unborn_remembered (place_of core.shape) core.ledger.births m.calls is.births (Print p) 1
+
+pub name_known : (d : Meaning) (core : Core) (m : Moment) (l p : ℕ) → IsMomentOf d core m → is_unborn_in core.ledger.births (Name l) p ≡ (known_at (lay_of core.shape) m).unborn_name l p
+name_known d core m l p is = unborn_remembered (place_of core.shape) core.ledger.births m.calls is.births (Name l) p
 
 is_some_of : (o : Option (List ℕ)) (x : List ℕ) → o ≡ Some x → is_some o ≡ true
 is_some_of o x e = ap is_some e
@@ -166,7 +170,7 @@ pub last_alike : (d : Meaning) (core : Core) (m : Moment) (r : Release) → IsMo
 last_alike d core m r is placed count_held print_held =
     let count = count_cached d core r placed count_held in
     let print = print_cached d core r placed print_held in
-    let unborn = unborn_known d core m r is in (
+    let unborn = unborn_known d core m r.page is in (
       λ last.
           let one = and_parts _ _ last in
           let two = and_parts _ _ one.1 in
