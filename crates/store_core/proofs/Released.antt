@@ -84,6 +84,9 @@ module _ (a b n : Core) (i : ℕ) (r : Release) (can : CanApply i r a) (placed :
   off_print : data_at ≢ r.print_at
   off_print e = (apart_pages a.shape).table_data r.print_at r.page (print_table a.shape r placed) (placed.first, placed.last) (sym e)
 
+  off_map : data_at ≢ r.map_at
+  off_map e = (apart_pages a.shape).table_data r.map_at r.page (inl (r.block, placed.block, placed.map_at)) (placed.first, placed.last) (sym e)
+
   off_both : (x y z u v : Bool) → x ≡ (y || (z || (u && v))) → z ≡ false → v ≡ false → x ≡ y
   off_both x true z u v e f g = e
   off_both x false z true v e f g = e ∙ ap (λ (k : Bool). k || v) f ∙ g
@@ -160,6 +163,11 @@ module _ (a b n : Core) (i : ℕ) (r : Release) (can : CanApply i r a) (placed :
           into = λ x y h. elim (last.grows.into x y h) [ inl was ↦ low.grows.into x y was | inr at ↦ inr at ];
           barred_into = λ x y h. elim (last.grows.barred_into x y h) [ inl was ↦ low.grows.barred_into x y was | inr at ↦ inr at ];
         };
+        map_ordered = record {
+          live = λ z is. last.grows.live r.map_at r.count_at (kept_at r.map_at off_map) (low.map_ordered.live z is);
+          barred = λ z is. last.grows.barred r.map_at r.count_at (low.map_ordered.barred z is);
+        };
+        print_ordered = λ is. last.grows.live r.print_at r.count_at (kept_at r.print_at off_print) (low.print_ordered is);
         takes = two;
         changes = omega (arith, changes_b, changes_n);
         same_births = λ stays. ap (λ (l : Ledger). l.births) last.ledger ∙ low.same_births stays;
