@@ -110,8 +110,11 @@ module _ (a b : Core) (i : ℕ) (same : SameButLooks i a b) where
         → SmallPass (lay_of a.shape) m (map plain_release (take (suc i) b.ledger.queue.releases)) (map plain_release (drop (suc i) b.ledger.queue.releases)) end
         → SmallPass (lay_of a.shape) m (map plain_release (take i a.ledger.queue.releases)) (map plain_release (drop i a.ledger.queue.releases)) end
     pass_looked d m is end p = subst (λ (l : List Release). SmallPass (lay_of a.shape) m (map plain_release (take i a.ledger.queue.releases)) (map plain_release l) end) (sym (drop_at a.ledger.queue.releases i r at))
-        (inl (blocked_at d m is, subst (λ (l : List plain.Release). SmallPass (lay_of a.shape) m l (map plain_release (drop (suc i) a.ledger.queue.releases)) end) kept_looked
-            (subst (λ (l : List plain.Release). SmallPass (lay_of a.shape) m (map plain_release (take (suc i) b.ledger.queue.releases)) l end) todo_looked p)))
+        (inl (
+          blocked_at d m is,
+          subst (λ (l : List plain.Release). SmallPass (lay_of a.shape) m l (map plain_release (drop (suc i) a.ledger.queue.releases)) end) kept_looked
+              (subst (λ (l : List plain.Release). SmallPass (lay_of a.shape) m (map plain_release (take (suc i) b.ledger.queue.releases)) l end) todo_looked p),
+        ))
 
     pub part_looked : (x : PrintsView) → KeepsStands a b → PassPart i (suc i) 0 [] a b x x
     part_looked x stands = record {
@@ -233,9 +236,13 @@ module _ (a b : Core) (x y : PrintsView) (i : ℕ) (r : Release) (freed : Bool) 
     pass_out : (end : Moment) → SmallPass (lay_of a.shape) step.n (map plain_release (take i b.ledger.queue.releases)) (map plain_release (drop i b.ledger.queue.releases)) end
         → SmallPass (lay_of a.shape) m (map plain_release (take i a.ledger.queue.releases)) (map plain_release (drop i a.ledger.queue.releases)) end
     pass_out end p = subst (λ (l : List Release). SmallPass (lay_of a.shape) m (queued_before i a) (map plain_release l) end) (sym (drop_at a.ledger.queue.releases i r at))
-        (inr (step.n, step.leaves, subst (λ (l : List Release). SmallPass (lay_of a.shape) step.n (map plain_release l) (queued_after i a) end) (take_removed a.ledger.queue.releases i r at)
-            (subst (λ (l : List Release). SmallPass (lay_of a.shape) step.n (map plain_release (take i (remove a.ledger.queue.releases i))) (map plain_release l) end) (drop_removed a.ledger.queue.releases i r at)
-            (subst (λ (l : List Release). SmallPass (lay_of a.shape) step.n (map plain_release (take i l)) (map plain_release (drop i l)) end) releases_out p))))
+        (inr (
+          step.n,
+          step.leaves,
+          subst (λ (l : List Release). SmallPass (lay_of a.shape) step.n (map plain_release l) (queued_after i a) end) (take_removed a.ledger.queue.releases i r at)
+              (subst (λ (l : List Release). SmallPass (lay_of a.shape) step.n (map plain_release (take i (remove a.ledger.queue.releases i))) (map plain_release l) end) (drop_removed a.ledger.queue.releases i r at)
+              (subst (λ (l : List Release). SmallPass (lay_of a.shape) step.n (map plain_release (take i l)) (map plain_release (drop i l)) end) releases_out p)),
+        ))
 
   pub part_out : PassPart i i 1 (freed_pages freed r.page) a b x y
   part_out = record {

@@ -29,7 +29,7 @@ mod tables;
 mod totals;
 mod waves;
 
-pub use blocking::blocked_alike;
+pub use blocking::{blocked_alike, known_at_moments};
 use flush_engine::Engine;
 pub use laws::{image_is_good, images_are_fit, moments_stand, moves_stand, settled, weaker};
 pub use ledger::Ledger;
