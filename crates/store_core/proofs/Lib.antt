@@ -35,3 +35,4 @@ pub mod OrderlyEdits
 pub mod OrderlyReleases
 pub mod OrderlyFlows
 pub mod Spending
+pub mod Opens
