@@ -1,6 +1,6 @@
 -- A page that is fetched: a clean page comes in, and maybe another is dropped.
-use Rattle.std.proofs.Common.{arith, not, ◌+◌, ◌≡◌, inl, inr, ◌<◌, ℕ, zero, suc, Bool, true, false, cond, refl, sym, ap, ◌∙◌, subst, List, [], ◌∷◌, Option, None, Ok, Err, Result, eqb, eqb-true, get_or, length, is_some}
-use Rattle.std.specs.Prelude.{slice_get}
+use Rattle.std.proofs.Common.{arith, not, ◌+◌, ◌≡◌, ◌⊎◌, inl, inr, ◌<◌, ℕ, zero, suc, Bool, true, false, cond, refl, sym, ap, ◌∙◌, subst, List, [], ◌∷◌, Option, None, Ok, Err, Result, eqb, eqb-true, get_or, length, is_some}
+use Rattle.std.specs.Prelude.{slice_get, OnErr}
 use Rattle.std.proofs.lemmas.Bool.{cases_Bool}
 use Rattle.page_device.specs.Block.{Block}
 use Rattle.page_device.specs.Disk.{DeviceState, newest}
@@ -9,7 +9,7 @@ use Rattle.page_device.specs.Moments.{EachImage, Leaves, leaves_read, leaves_sta
 use Rattle.page_layout.specs.Shape.{ShapeView, total}
 use Rattle.page_cache.specs.View as cached
 use Rattle.page_cache.specs.View.{CacheView, content_in, holds_in, is_there}
-use Rattle.page_cache.specs.Calls.{Brought, FetchCall, SameMarks, is_dropped}
+use Rattle.page_cache.specs.Calls.{Brought, FetchCall, Same, SameMarks, is_dropped}
 use Rattle.page_cache.specs.declared.cache.FetchError.{FetchError}
 use Rattle.page_cache.specs.declared.cache.FetchError.TheVariants.{Device, NoMemory}
 use Rattle.dep_graph.specs.Lists.{dirty_in}
@@ -42,7 +42,7 @@ held_get [] k = refl
 held_get (x ∷ xs) zero = refl
 held_get (x ∷ xs) (suc k) = held_get xs k
 
-read_content : (d : Meaning) (page : ℕ) → IsKnown d → held_or (slice_get (newest d.state) page) (newest_on d.state page) ≡ newest_on d.state page
+pub read_content : (d : Meaning) (page : ℕ) → IsKnown d → held_or (slice_get (newest d.state) page) (newest_on d.state page) ≡ newest_on d.state page
 read_content d page k =
     let is : get_or (newest d.state) page [] ≡ newest_on d.state page = flush_newest d.state page (subst (λ (n : ℕ). InRange n d.state.since) (sym k.counts) k.in_range) in
     subst (λ n. held_or (slice_get (newest d.state) page) n ≡ n) is (held_get (newest d.state) page)
@@ -52,11 +52,11 @@ three true y new was n fresh clean = fresh refl ∙ sym clean
 three false true new was n fresh clean = sym clean
 three false false new was n fresh clean = refl
 
-not-true' : (b : Bool) → not b ≡ true → b ≡ false
+pub not-true' : (b : Bool) → not b ≡ true → b ≡ false
 not-true' true h = cc
 not-true' false h = refl
 
-not-false' : (b : Bool) → not b ≡ false → b ≡ true
+pub not-false' : (b : Bool) → not b ≡ false → b ≡ true
 not-false' true h = refl
 not-false' false h = cc
 
@@ -133,11 +133,34 @@ module _ (d e : Meaning) (old new : CacheView) (page : ℕ) where
   ]
   fetch_within (Err x) shape f lt was a h = was a (ap is_some (sym (f.err.content a)) ∙ h)
 
+  -- what came in, and what did not
+  came : (x y : Bool) (in_ was : Option Block) → is_some (cond x in_ (cond y None was)) ≡ true → (x ≡ true) ⊎ (cond x in_ (cond y None was) ≡ was)
+  came true y in_ was h = inl refl
+  came false true in_ was h = absurd (cc)
+  came false false in_ was h = inr refl
+
+  pub only_brings : (r : Result Bool FetchError) → Fetches page r d e old new → (q : ℕ) → is_there new q ≡ true → (content_in new q ≡ content_in old q) ⊎ ((q ≡ page) × (is_there old page ≡ false))
+  only_brings (Ok read) f q there = elim (cases_Bool (is_there old page)) [
+    | inl t ↦ inl ((f.there t).1.content q)
+    | inr off ↦
+        let each = (f.read off).each q in
+        elim (came (eqb q page) (is_dropped old new q) (content_in new page) (content_in old q) (ap is_some (sym each) ∙ there)) [
+          | inl here ↦ inr (eqb-true q page here, off)
+          | inr was ↦ inl (each ∙ was)
+        ]
+  ]
+  only_brings (Err x) f q there = inl (f.err.content q)
+
   pub fetch_dirty : (r : Result Bool FetchError) → Fetches page r d e old new → (q : ℕ) → cached.dirty_in new q ≡ cached.dirty_in old q
   fetch_dirty r f = (fetch_marks r f).dirty
 
   pub fetch_holds : (r : Result Bool FetchError) → Fetches page r d e old new → (q : ℕ) → holds_in new q ≡ holds_in old q
   fetch_holds r f = (fetch_marks r f).holds
+
+-- after an error the contents are as before
+pub fetch_kept : (old new : CacheView) (r : Result Bool FetchError) → OnErr r (Same old new) → OnErr r ((q : ℕ) → content_in new q ≡ content_in old q)
+fetch_kept old new (Ok read) err = tt
+fetch_kept old new (Err x) err = err.content
 
 pub quiet_fetched : (d e : Meaning) (old new : Core) (page : ℕ) (r : Result Bool FetchError) → Fetches page r d e old.engine.cache new.engine.cache → SameRest old new → Quiet none d e old new
 quiet_fetched d e old new page r f rest = record {

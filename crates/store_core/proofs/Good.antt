@@ -16,7 +16,7 @@ use Rattle.store_core.specs.Weaker.{mode_of}
 use Rattle.store_core.specs.Layout.{lay_of, top}
 use Rattle.store_core.specs.Stands.{IsFit}
 
-page_is : (xs : List Block) (k : ℕ) → k < length xs → page_of xs k ≡ get_or xs k []
+pub page_is : (xs : List Block) (k : ℕ) → k < length xs → page_of xs k ≡ get_or xs k []
 page_is [] k lt = absurd (omega arith)
 page_is (x ∷ xs) zero lt = refl
 page_is (x ∷ xs) (suc k) lt = page_is xs k (omega arith)

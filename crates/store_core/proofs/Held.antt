@@ -4,7 +4,7 @@ use Rattle.page_device.specs.Meaning.{Meaning}
 use Rattle.page_device.specs.declared.error.NoMemory.{NoMemory}
 use Rattle.page_layout.specs.Shape.{total}
 use Rattle.page_cache.specs.View as cached
-use Rattle.page_cache.specs.View.{CacheView, is_there}
+use Rattle.page_cache.specs.View.{CacheView, content_in, is_there}
 use Rattle.page_cache.specs.Calls.{FetchCall, Held, Same as SameCache}
 use Rattle.page_cache.specs.declared.cache.FetchError.TheVariants as fetch
 use Rattle.store_core.specs.declared.Core.{Core}
@@ -19,6 +19,10 @@ module _ (old : Core) (cache : CacheView) (page : ℕ) where
   pub hold_within : (r : Result Unit NoMemory) → OnOk r (Held old.engine.cache cache page) → OnErr r (SameCache old.engine.cache cache) → (a : ℕ) → is_there cache a ≡ true → a < total old.shape
   hold_within (Ok _) ok err = held_within old cache page ok
   hold_within (Err _) ok err = same_within old cache err
+
+  pub hold_same : (r : Result Unit NoMemory) → OnOk r (Held old.engine.cache cache page) → OnErr r (SameCache old.engine.cache cache) → (q : ℕ) → content_in cache q ≡ content_in old.engine.cache q
+  hold_same (Ok _) ok err = ok.content
+  hold_same (Err _) ok err = err.content
 
   pub hold_there : (r : Result Unit NoMemory) → OnOk r (Held old.engine.cache cache page) → is_there old.engine.cache page ≡ true → OnOk r (is_there cache page ≡ true)
   hold_there (Ok _) ok t = ap is_some (ok.content page) ∙ t

@@ -8,8 +8,11 @@ pub mod Flowed
 pub mod Going
 pub mod Quieted
 pub mod Fetched
+pub mod Looked
+pub mod Undamaged
 pub mod Held
 pub mod Good
+pub mod OpenedStands
 pub mod Standing
 pub mod Edited
 pub mod Queued

@@ -96,7 +96,7 @@ rest_stands sound d e old new array s known pages rest world = stands_then sound
     (same_remembered (place_of old.shape) old.ledger.births new.ledger.births s.calls s.births rest.births) (λ p is. ap (λ q. told_of q p) rest.pool ∙ s.pool p is)
 
 -- no call of the device
-still_passes : (d : Meaning) (old new : Core) → SameRest old new
+pub still_passes : (d : Meaning) (old new : Core) → SameRest old new
     → (IsOver d old → (q : ℕ) → held_or (content_in new.engine.cache q) (newest_on d.state q) ≡ held_or (content_in old.engine.cache q) (newest_on d.state q)) → Passes d d old new
 still_passes d old new rest same = record {
   stands = λ sound array s. rest_stands sound d d old new array s s.known refl rest (rest_world d d old new rest refl (same (over sound d old array s)));
@@ -137,6 +137,7 @@ back_then m n a b c h k = record {
   rest = rest_then a b c h.rest k.rest;
   holds = λ q. omega (arith, h.holds q, k.holds q);
   held = λ q p. k.held q p ∙ h.held q (omega (arith, p, k.holds q));
+  stay = λ q there. k.stay q there ∙ h.stay q (ap is_some (sym (k.stay q there)) ∙ there);
 }
 
 pub quiet_back : (m : ℕ → ℕ) (d e : Meaning) (a b c : Core) → Quiet m d e a b → GivesBack m b c → Quiet none d e a c
@@ -210,7 +211,12 @@ gives_back old new page some rest u = record {
   rest = rest;
   holds = λ q. held_less q page (holds_in old.engine.cache q) (holds_in new.engine.cache q) (u.holds q) (λ z. subst (λ x. 0 < holds_in old.engine.cache x) (sym z) some);
   held = λ q h. u.kept q (table_held new.engine.cache q h);
+  stay = λ q there. u.content q ∙ cond_some (in_table new.engine.cache q || is_recent new.engine.cache q) (content_in old.engine.cache q) (ap is_some (sym (u.content q)) ∙ there);
 }
+  where
+    cond_some : (b : Bool) (o : Option Block) → is_some (cond b o None) ≡ true → cond b o None ≡ o
+    cond_some true o h = refl
+    cond_some false o h = cc
 
 -- what every core keeps, with another cache
 pub whole_cache : (old : Core) (e : EngineView) (cache : CacheView) → e ≡ record old.engine { cache = cache } → ((q : ℕ) → cached.dirty_in cache q ≡ cached.dirty_in old.engine.cache q)

@@ -15,6 +15,8 @@ pub mod Applied
 pub mod Quiet
 pub mod Room
 pub mod Fetching
+pub mod Damaged
+pub mod Opened
 pub mod Weaker
 pub mod Owed
 pub mod Orderly

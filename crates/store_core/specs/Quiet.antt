@@ -1,7 +1,7 @@
 -- What leaves the arrays that a core stands for, and what is there of the pages that are held.
 use Rattle.std.specs.Prelude.{◌≡◌, ◌<◌, ◌≤◌, ◌+◌, ℕ, true, false, map, eqb, cond}
 use Rattle.page_device.specs.Meaning.{Meaning}
-use Rattle.page_cache.specs.View.{content_in, holds_in}
+use Rattle.page_cache.specs.View.{content_in, holds_in, is_there}
 use Rattle.order_model.specs.declared.Slot.{Slot}
 use Rattle.dep_graph.specs.Lists.{GraphLists, node_count}
 use Rattle.release_queue.specs.declared.Release.{Release}
@@ -68,9 +68,10 @@ pub record Quiet (more : ℕ → ℕ) (d e : Meaning) (old new : Core) : Type 0 
   pub holds : (q : ℕ) → holds_in new.engine.cache q ≡ holds_in old.engine.cache q + more q
   pub held : (q : ℕ) → 0 < holds_in old.engine.cache q → content_in new.engine.cache q ≡ content_in old.engine.cache q
 
--- So many holds were given back, and what is held still is as it was.
+-- So many holds were given back, and what is there still is as it was.
 pub record GivesBack (less : ℕ → ℕ) (old new : Core) : Type 0 where
   pub passes : (d : Meaning) → Passes d d old new
   pub rest : SameRest old new
   pub holds : (q : ℕ) → holds_in old.engine.cache q ≡ holds_in new.engine.cache q + less q
   pub held : (q : ℕ) → 0 < holds_in new.engine.cache q → content_in new.engine.cache q ≡ content_in old.engine.cache q
+  pub stay : (q : ℕ) → is_there new.engine.cache q ≡ true → content_in new.engine.cache q ≡ content_in old.engine.cache q

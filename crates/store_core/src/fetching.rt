@@ -39,11 +39,15 @@ fn unhold_page(engine: &mut Engine, page: u32)
 }
 
 impl Core {
-    ghost use Rattle.std.specs.Prelude.{◌≡◌, ◌<◌, ◌≤◌, ℕ, true, OnOk, OnErr};
+    ghost use Rattle.std.specs.Prelude.{◌≡◌, ◌<◌, ◌≤◌, ℕ, Ok, None, true, not, slice_get, IfOk, OnOk, OnErr};
+    ghost use Rattle.page_device.specs.Disk.{newest};
     ghost use Rattle.page_device.specs.Meaning.{Meaning};
+    ghost use Rattle.page_layout.specs.Entries.{table_at};
     ghost use Rattle.page_layout.specs.Shape.{total};
-    ghost use Rattle.page_cache.specs.View.{holds_in, is_there};
+    ghost use Rattle.page_cache.specs.View.{content_in, holds_in, is_there};
     ghost use Rattle.page_cache.specs.Calls.{FetchCall, HasFetchCause};
+    ghost use Rattle.store_core.specs.Fetching.{OnlyBrings};
+    ghost use Rattle.store_core.specs.Orderly.{KeepsFormed};
     ghost use Rattle.store_core.specs.Quiet.{GivesBack, Quiet, none, once};
 
     /// Brings in a page, so that it is there after `Ok`: `true` where it was read, `false` where it was there. What the core stands
@@ -55,7 +59,12 @@ impl Core {
         requires within { page < total self.old.shape }
         ensures cause { HasFetchCause result (D.seen device.old) (D.seen device.new) }
         ensures call { FetchCall result (D.seen device.old) (D.seen device.new) }
+        ensures answer { IfOk result (λ read. read ≡ not (is_there self.old.engine.cache page)) }
         ensures there { OnOk result (is_there self.new.engine.cache page ≡ true) }
+        ensures newest { result ≡ Ok true → (D.seen device.old).honest ≡ true → (D.seen device.old).tells_pages ≡ true → content_in self.new.engine.cache page ≡ slice_get (newest (D.seen device.old).state) page }
+        ensures brings { OnlyBrings page self.old self.new }
+        ensures kept { OnErr result ((q : ℕ) → content_in self.new.engine.cache q ≡ content_in self.old.engine.cache q) }
+        ensures formed { table_at self.old.shape page ≡ None → KeepsFormed self.old self.new }
         ensures quiet { Quiet none (D.seen device.old) (D.seen device.new) self.old self.new }
     {
         fetch_page(&mut self.engine, device, page)
@@ -73,6 +82,8 @@ impl Core {
         ensures call { FetchCall result (D.seen device.old) (D.seen device.new) }
         ensures ok { OnOk result (Quiet (once page) (D.seen device.old) (D.seen device.new) self.old self.new) }
         ensures there { OnOk result (is_there self.new.engine.cache page ≡ true) }
+        ensures brings { OnlyBrings page self.old self.new }
+        ensures formed { table_at self.old.shape page ≡ None → KeepsFormed self.old self.new }
         ensures err { OnErr result (Quiet none (D.seen device.old) (D.seen device.new) self.old self.new) }
     {
         let read = match self.fetch(device, page) {
@@ -86,10 +97,11 @@ impl Core {
     }
 
     // A page that is there is held once more. The only error is that it is held 2^32 - 1 times.
-    fn hold(&mut self, page: u32) -> Result<(), NoMemory>
+    pub(crate) fn hold(&mut self, page: u32) -> Result<(), NoMemory>
         requires { is_there self.old.engine.cache page ≡ true }
         ensures ok { OnOk result ((d : Meaning) → Quiet (once page) d d self.old self.new) }
         ensures there { OnOk result (is_there self.new.engine.cache page ≡ true) }
+        ensures same { (q : ℕ) → content_in self.new.engine.cache q ≡ content_in self.old.engine.cache q }
         ensures err { OnErr result ((d : Meaning) → Quiet none d d self.old self.new) }
     {
         hold_page(&mut self.engine, page)

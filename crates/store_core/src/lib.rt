@@ -16,18 +16,22 @@ mod laws;
 mod ledger;
 mod marking;
 mod naming;
+mod observing;
+mod opening;
 mod orderly;
 mod placing;
 mod printing;
 mod provided;
 mod releasing;
 mod room;
+mod tables;
 mod waves;
 
 pub use blocking::blocked_alike;
 use flush_engine::Engine;
 pub use laws::{image_is_good, images_are_fit, settled, weaker};
 pub use ledger::Ledger;
+pub use opening::opened;
 pub use orderly::{
     but_for_none, data_is_orderly, edges_open, entries_are_orderly, entries_fit, marks_are_orderly,
     quiet_is_orderly, releases_are_orderly, releases_wait,
@@ -39,6 +43,7 @@ pub use provided::{
     reserved_is_enough, stays_provided, steps_spend,
 };
 pub use room::NoRoom;
+pub use tables::{TableError, tables_are_whole};
 
 /// What is kept between commands, but for the policy, the index of prints and the totals.
 #[derive(Drop)]
