@@ -1,6 +1,7 @@
 // Marks, edges, queue and tables, over what leaves them in order.
 ghost use Rattle.std.specs.Prelude.{◌≡◌, ◌≢◌, ◌<◌, ◌≤◌, ℕ, List, Option, Some, false, true, cond, map, remove, slice_get};
 ghost use Rattle.page_device.specs.Meaning.{Meaning};
+ghost use Rattle.page_layout.specs.Formed.{is_formed};
 ghost use Rattle.page_layout.specs.Shape.{count_page, data_page, map_page, print_page, print_place};
 ghost use Rattle.page_layout.specs.Tables.{IsPrintEntry};
 ghost use Rattle.page_cache.specs.View.{content_in, holds_in, is_there};
@@ -17,7 +18,7 @@ ghost use Rattle.store_core.specs.Applied.{AppliesRelease, CanApply};
 ghost use Rattle.store_core.specs.Edits.{Barred, LowersCount, Makes, NamesBlock, RaisesCount, named_in};
 ghost use Rattle.store_core.specs.Frames.{OnlyEngine, SameHolds};
 ghost use Rattle.store_core.specs.Layout.{lay_of, top};
-ghost use Rattle.store_core.specs.Orderly.{AreFormed, FewerEdges, HasToWait, IsOrderly, IsOrderlyBut, KeepsOrderBut, OnlyCame, Waits};
+ghost use Rattle.store_core.specs.Orderly.{AreFormed, FewerEdges, HasToWait, IsOrderly, IsOrderlyBut, KeepsFormed, KeepsOrderBut, OnlyCame, Waits};
 ghost use Rattle.store_core.specs.Owed.{IsProvided};
 ghost use Rattle.store_core.specs.Printed.{PrintsPage};
 ghost use Rattle.store_core.specs.Quiet.{GivesBack, Quiet};
@@ -35,6 +36,13 @@ pub fn but_for_none()
 pub fn quiet_is_orderly()
     ensures quiet { (b : ℕ) (more : ℕ → ℕ) (d e : Meaning) (old new : Core) → IsProvided old → Quiet more d e old new → AreFormed new → IsOrderlyBut b old → IsOrderlyBut b new }
     ensures back { (b : ℕ) (less : ℕ → ℕ) (old new : Core) → IsProvided new → GivesBack less old new → AreFormed new → IsOrderlyBut b old → IsOrderlyBut b new }
+{}
+
+/// Table pages stay well formed where holds are given back, where the cache stays, and where one well-formed page came in.
+pub fn tables_stay_formed()
+    ensures back { (less : ℕ → ℕ) (old new : Core) → GivesBack less old new → KeepsFormed old new }
+    ensures cache { (old new : Core) → new.shape ≡ old.shape → new.engine.cache ≡ old.engine.cache → KeepsFormed old new }
+    ensures came { (page : ℕ) (old new : Core) → new.shape ≡ old.shape → is_formed old.shape page (page_in new page) ≡ true → OnlyCame page old new → KeepsFormed old new }
 {}
 
 /// And over a mark and an edge of an allowed kind.
