@@ -45,3 +45,4 @@ pub mod QueueParts
 pub mod TakenOut
 pub mod PartLemmas
 pub mod PartSteps
+pub mod Opens
