@@ -45,3 +45,5 @@ pub mod QueueParts
 pub mod TakenOut
 pub mod PartLemmas
 pub mod PartSteps
+pub mod PartOut
+pub mod PartStays
