@@ -1,7 +1,7 @@
 -- A release that is applied, by the laws of the plain state.
-use Rattle.std.proofs.Common.{arith, ◌≡◌, ◌⊎◌, inl, inr, ◌<◌, ◌≤◌, ◌+◌, ◌-◌, ℕ, zero, suc, Bool, true, false, cond, refl, sym, ap, ◌∙◌, subst, List, [], ◌∷◌, ◌++◌, Option, Some, None, map, take, drop, eqb, eq-eqb}
+use Rattle.std.proofs.Common.{arith, ◌≡◌, ◌↔◌, inl, inr, ◌<◌, ◌≤◌, ◌+◌, ◌-◌, ℕ, zero, suc, Bool, true, false, cond, refl, sym, ap, ◌∙◌, subst, List, [], ◌∷◌, ◌++◌, Some, None, map, take, drop, eqb, eq-eqb}
 use Rattle.std.specs.Prelude.{slice_get}
-use Rattle.std.proofs.lemmas.Bool.{cases_Bool}
+use Rattle.std.proofs.lemmas.Bool.{cases_Bool, or_left, or_right}
 use Rattle.std.proofs.lemmas.List.{map-append}
 use Rattle.page_device.specs.Block.{Block}
 use Rattle.page_device.specs.Meaning.{Meaning}
@@ -10,21 +10,25 @@ use Rattle.page_layout.specs.Tables.{print_entry_of}
 use Rattle.page_cache.specs.View.{holds_in, is_there}
 use Rattle.order_model.specs.Pool.{Told}
 use Rattle.order_model.specs.World as plain
-use Rattle.order_model.specs.World.{IsData, Queued, World, queued}
+use Rattle.order_model.specs.World.{Queued, World, queued}
 use Rattle.dep_graph.specs.Lists.{dirty_in, hung_in, live_in, waits_in}
 use Rattle.dep_graph.proofs.ReadyLemmas.{none_waits}
 use Rattle.order_model.specs.declared.Slot.TheVariants.{Print}
 use Rattle.birth_marks.specs.Births.{Remembers, is_unborn_in, recorded_in, value_in}
 use Rattle.page_alloc.specs.Pool.{told_of}
 use Rattle.flush_engine.specs.View.{EngineView}
+use Rattle.release_queue.specs.Needed.{IsBlocked as IsBlockedInQueue}
 use Rattle.release_queue.specs.declared.Release.{Release}
 use Rattle.release_queue.specs.Queued.{QueueLists}
-use Rattle.engine_model.specs.Entries.{cached_count, cached_print}
+use Rattle.engine_model.specs.AnyDevice.{IsOrdered}
+use Rattle.engine_model.specs.Entries.{EdgeKind, cached_count, cached_print}
 use Rattle.engine_model.specs.Invariant.{Moment, ToldZero, known_at}
 use Rattle.engine_model.specs.Releases.{IsBlocked}
-use Rattle.engine_model.specs.SmallPass.{Applies, Clears, ClearsLast, ClearsUnborn, GivenUp, GivesUp, Leaves, NothingToClear, StaysThere, map_edge, print_readied, readied}
+use Rattle.engine_model.specs.SmallPass.{Clears, ClearsLast, ClearsUnborn, GivenUp, GivesUp, NothingToClear, map_edge, print_readied, readied}
 use Rattle.engine_model.specs.SmallRuns.{in_state, with_print, with_release_out}
 use Rattle.engine_model.specs.SmallSteps.{SetsCount, SetsPrint, given_up, ordered, touched}
+use Rattle.engine_model.proofs.Ordering.{barred_order, order_order, touch_order}
+use Rattle.engine_model.proofs.AppliedFrames.{edge_cases}
 use Rattle.store_core.specs.declared.Core.{Core}
 use Rattle.store_core.specs.declared.ledger.Ledger.{Ledger}
 use Rattle.store_core.specs.Layout.{lay_of, place_of}
@@ -33,12 +37,22 @@ use Rattle.store_core.specs.Whole.{IsPlaced}
 use Rattle.store_core.specs.Applied.{CanApply, count_of_release, has_print_of, is_last_print, is_print_unborn}
 use Rattle.store_core.specs.Edits.{LowersCount, Makes}
 use Rattle.store_core.specs.Frames.{KeepsStands}
-use Rattle.store_core.specs.Moments.{AppliesByLaws, ClearsByLaws, GivesUpByLaws, IsMomentOf, LeavesByLaws, LowersByLaws, Moves}
+use Rattle.store_core.specs.Moments.{AppliesByLaws, ClearsByLaws, GivesUpByLaws, IsMomentOf, LeavesByLaws, LowersByLaws}
 use Rattle.store_core.specs.Printed.{PrintsPage}
-use Rattle.store_core.proofs.Alike.{to_queue}
-use Rattle.store_core.proofs.AppliedStands.{some_print}
-use Rattle.store_core.proofs.Moved.{Marks, count_cached, count_left, gone, is_given, is_gone, is_out, last_alike, marked, marks_edge, marks_ordered, marks_then, marks_touched, moment_of_parts, out, pool_left, print_cached, sets_left, sets_none, split_plain, staged_out, told_left, unborn_known}
+use Rattle.store_core.proofs.Alike.{to_engine, to_queue}
+use Rattle.store_core.proofs.AppliedStands.{print_kind, release_kind, some_print}
+use Rattle.store_core.proofs.Moved.{Marks, count_cached, count_left, gone, is_given, is_gone, is_out, last_alike, marked, marks_edge, marks_ordered, marks_then, marks_touched, moment_of_parts, pool_left, print_cached, sets_left, sets_none, split_plain, fewer_out, told_left, unborn_known}
 use Rattle.store_core.proofs.Queued.{queued_at}
+
+-- a release has to wait by the test of the queue where it is blocked at the moment
+pub blocked_alike_at : (d : Meaning) (core : Core) (m : Moment) (r : Release) → IsMomentOf d core m → IsPlaced core.shape r → 0 < holds_in core.engine.cache r.count_at → 0 < holds_in core.engine.cache r.print_at
+    → IsBlockedInQueue (live_in core.engine.graph) r (is_last_print core r) ↔ IsBlocked (lay_of core.shape) (known_at (lay_of core.shape) m) m.world (plain_release r)
+blocked_alike_at d core m r is placed count_held print_held =
+    let known = known_at (lay_of core.shape) m in
+    let last = last_alike d core m r is placed count_held print_held in (
+      λ h. subst (λ (w : World). IsBlocked (lay_of core.shape) known w (plain_release r)) is.world (to_engine core.shape known (world_of d core) r (is_last_print core r) placed last h),
+      λ h. to_queue core.shape known (world_of d core) r (is_last_print core r) placed last (subst (λ (w : World). IsBlocked (lay_of core.shape) known w (plain_release r)) (sym is.world) h),
+    )
 
 -- a queued release is counted among those of its page
 abbrev one_if : Bool → ℕ
@@ -106,16 +120,18 @@ module _ (a c n : Core) (r : Release) (placed : IsPlaced a.shape r) (shape : c.s
       let x = some_print (print_entry_of (page_in a r.print_at) (print_place r.page)) had in
       let some : cached_print lay m.world r.page ≡ Some x.0 = ap (λ (w : World). cached_print lay w r.page) (sym is.world) ∙ print_cached d a r placed held ∙ x.1 in
       let now : cached_count lay m.world r.page ≡ 1 = ap (λ (w : World). cached_count lay w r.page) (sym is.world) ∙ count_cached d a r placed held_count ∙ one in
-      let known = unborn_known d a m r is in
+      let known = unborn_known d a m r.page is in
       elim (cases_Bool (is_print_unborn a r)) [
         | inl unborn ↦
             let w = touched (print_page a.shape r.page) m.world in
-            let g = goes d (in_state w m) (marked d a c m is shape ledger w (world_of_print d m is true unborn) (marks_touched (print_page a.shape r.page) m.world)) x.0 some in
+            let g = goes d (in_state w m) (marked d a c m is shape ledger w (world_of_print d m is true unborn) (marks_touched (print_page a.shape r.page) m.world) (touch_order lay m.world is.staged (print_page a.shape r.page))) x.0 some in
             (g.0, g.1, g.2, λ count counted. ClearsUnborn g.3.0 x.0 (omega (arith, counted, now)) some (sym known ∙ unborn) g.3.1 g.3.2)
         | inr born ↦
             let w = print_readied lay r.page m.world in
             let more = marks_then m.world (touched (print_page a.shape r.page) m.world) w (marks_touched (print_page a.shape r.page) m.world) (marks_ordered (print_page a.shape r.page) (count_page a.shape r.page) (touched (print_page a.shape r.page) m.world)) in
-            let g = goes d (in_state w m) (marked d a c m is shape ledger w (world_of_print d m is false born) more) x.0 some in
+            let staged = order_order lay (touched (print_page a.shape r.page) m.world) (touch_order lay m.world is.staged (print_page a.shape r.page)) (print_page a.shape r.page) (count_page a.shape r.page)
+            (subst (λ (k : ℕ). EdgeKind lay (print_page a.shape r.page) k) placed.count_at (subst (λ (k : ℕ). EdgeKind lay k r.count_at) placed.print_at (print_kind a.shape r placed))) (or_right _ _ (eq-eqb (print_page a.shape r.page) (print_page a.shape r.page) refl)) in
+            let g = goes d (in_state w m) (marked d a c m is shape ledger w (world_of_print d m is false born) more staged) x.0 some in
             (g.0, g.1, g.2, λ count counted. ClearsLast g.3.0 x.0 (omega (arith, counted, now)) some (sym known ∙ born) g.3.1 g.3.2)
       ]
 
@@ -134,13 +150,13 @@ module _ (a b c e n : Core) (i : ℕ) (r : Release) (can : CanApply i r a) (plac
     staged_dirty : (d : Meaning) (m : Moment) → IsMomentOf d a m → r.stage ≡ 0 → dirty_in b.engine.graph r.map_at ≡ true
     staged_dirty d m is z =
         let q : Queued m.world.queue r.block r.page 0 = subst (λ (w : World). Queued w.queue r.block r.page 0) is.world (queued_at a.ledger.queue.releases i r 0 can.queued z) in
-        let at : (world_of d a).dirty (map_page r.block) ≡ true = ap (λ (w : World). w.dirty (map_page r.block)) is.world ∙ is.staged.dirty r.block r.page placed.block q in
+        let at : (world_of d a).dirty (map_page r.block) ≡ true = ap (λ (w : World). w.dirty (map_page r.block)) is.world ∙ is.staged.zero_dirty r.block r.page q in
         dirty r.map_at (subst (λ (k : ℕ). dirty_in a.engine.graph k ≡ true) (sym placed.map_at) at)
 
     staged_hung : (d : Meaning) (m : Moment) → IsMomentOf d a m → r.stage ≡ 1 → hung_in b.engine.graph r.map_at ≡ true
     staged_hung d m is z =
         let q : Queued m.world.queue r.block r.page 1 = subst (λ (w : World). Queued w.queue r.block r.page 1) is.world (queued_at a.ledger.queue.releases i r 1 can.queued z) in
-        let at : (world_of d a).hung (map_page r.block) ≡ true = ap (λ (w : World). w.hung (map_page r.block)) is.world ∙ is.staged.hung r.block r.page placed.block q in
+        let at : (world_of d a).hung (map_page r.block) ≡ true = ap (λ (w : World). w.hung (map_page r.block)) is.world ∙ is.staged.one_hung r.block r.page q in
         hung r.map_at ∙ subst (λ (k : ℕ). hung_in a.engine.graph k ≡ true) (sym placed.map_at) at
 
     abbrev lay_a : plain.Layout
@@ -157,6 +173,15 @@ module _ (a b c e n : Core) (i : ℕ) (r : Release) (can : CanApply i r a) (plac
 
     marks_ready : (m : Moment) → Marks m.world (ready m)
     marks_ready m = marks_then m.world (touched (count_page a.shape r.page) m.world) (ready m) (marks_touched (count_page a.shape r.page) m.world) (marks_edge r.stage (map_page r.block) (count_page a.shape r.page) (touched (count_page a.shape r.page) m.world))
+
+    order_ready : (m : Moment) → IsOrdered lay_a m.world → Queued m.world.queue r.block r.page r.stage → IsOrdered lay_a (ready m)
+    order_ready m k q =
+        let kind : EdgeKind lay_a (map_page r.block) (count_page a.shape r.page) = subst (λ (x : ℕ). EdgeKind lay_a (map_page r.block) x) placed.count_at (subst (λ (x : ℕ). EdgeKind lay_a x r.count_at) placed.map_at (release_kind a.shape r placed)) in
+        let begun = touched (count_page a.shape r.page) m.world in
+        let old = touch_order lay_a m.world k (count_page a.shape r.page) in
+        edge_cases (IsOrdered lay_a) r.stage (map_page r.block) (count_page a.shape r.page) begun
+        (λ z. order_order lay_a begun old (map_page r.block) (count_page a.shape r.page) kind (or_left _ _ (k.zero_dirty r.block r.page (subst (λ (s : ℕ). Queued m.world.queue r.block r.page s) z q))))
+        (λ o. barred_order lay_a begun old (map_page r.block) (count_page a.shape r.page) kind) old
 
     -- the count that is left, from whichever moment the core is then
     record Lowered (x : ShapeView) (d : Meaning) (k : Moment) : Type 0 where
@@ -184,12 +209,11 @@ module _ (a b c e n : Core) (i : ℕ) (r : Release) (can : CanApply i r a) (plac
     cleared_at d m is = subst (λ (x : ShapeView). (k : Moment) × IsMomentOf d e k × (k.array ≡ m.array) × ((count : ℕ) → count + 1 ≡ cached_count (lay_of x) m.world r.page → Clears (lay_of x) r.page count m k)) shape_c (clears d m is)
 
     not_blocked : (d : Meaning) (m : Moment) → IsMomentOf d a m → IsBlocked lay_a (known_at lay_a m) m.world (plain_release r) → ⊥
-    not_blocked d m is blocked = can.opens (to_queue a.shape (known_at lay_a m) (world_of d a) r (is_last_print a r) placed (last_alike d a m r is placed can.count_held can.print_held)
-        (subst (λ (w : World). IsBlocked lay_a (known_at lay_a m) w (plain_release r)) (sym is.world) blocked))
+    not_blocked d m is blocked = can.opens ((blocked_alike_at d a m r is placed can.count_held can.print_held).1 blocked)
 
     pub release_lowered : LowersByLaws i r a n
     release_lowered d m is =
-        let is_c = marked d a c m is shape_c ledger_c (ready m) (world_c d m is) (marks_ready m) in
+        let is_c = marked d a c m is shape_c ledger_c (ready m) (world_c d m is) (marks_ready m) (order_ready m is.staged (subst (λ (w : World). Queued w.queue r.block r.page r.stage) is.world (queued_at a.ledger.queue.releases i r r.stage can.queued refl))) in
         let cl = cleared_at d (in_state (ready m) m) is_c in
         let lo = lowers d cl.0 cl.1 in
         let same_count : cached_count lay_a (ready m) r.page ≡ cached_count lay_a m.world r.page = ap (λ (x : Block). lay_a.count_in x r.page) ((marks_ready m).cached (count_page a.shape r.page)) in
@@ -218,10 +242,7 @@ module _ (a b c e n : Core) (i : ℕ) (r : Release) (can : CanApply i r a) (plac
           },
         )
 
--- the data page goes, or stays
-pub stays_there : (core : Core) (p : ℕ) → GivesUpByLaws p core core
-stays_there core p d m is = (m, is, refl, StaysThere refl)
-
+-- the data page goes
 pub goes_away : (old new : Core) (r : Release) → IsPlaced old.shape r → 0 < holds_in old.engine.cache r.count_at → count_of_release old r ≡ 0 → waits_in old.engine.graph (data_page old.shape r.page) ≡ false → new.shape ≡ old.shape → new.ledger ≡ old.ledger
     → Makes (given_up (data_page old.shape r.page)) old new → GivesUpByLaws r.page old new
 goes_away old new r placed held none alone shape ledger makes d m is = (
@@ -248,14 +269,21 @@ leaves_queue old new i r queued placed held none shape engine ledger d m is =
     let w = record m.world { queue = before ++ after } in
     let queue : map plain_release new.ledger.queue.releases ≡ before ++ after = ap (λ (l : Ledger). map plain_release l.queue.releases) ledger ∙ map-append plain_release (take i old.ledger.queue.releases) (drop (suc i) old.ledger.queue.releases) in
     let world : world_of d new ≡ w = ap (λ (x : EngineView). world_in d x.cache x.graph new.ledger.queue) engine ∙ ap (λ (rs : List plain.Release). record (world_of d old) { queue = rs }) queue ∙ ap (λ (x : World). record x { queue = before ++ after }) is.world in
-    let was : m.world.queue ≡ before ++ plain_release r ∷ after = ap (λ (x : World). x.queue) (sym is.world) ∙ split_plain old.ledger.queue.releases i r queued in (
+    let was : m.world.queue ≡ before ++ plain_release r ∷ after = ap (λ (x : World). x.queue) (sym is.world) ∙ split_plain old.ledger.queue.releases i r queued in
+    let fewer = fewer_out m.world.queue before after (plain_release r) was in (
       in_state w m,
       moment_of_parts d old new shape (in_state w m) world
           (subst (λ (l : Ledger). Remembers (place_of old.shape) l.births m.calls) (sym ledger) is.births)
           (λ s slot rec. ap (λ (l : Ledger). value_in l.births s) ledger ∙ is.values s slot (sym (ap (λ (l : Ledger). recorded_in l.births s) ledger) ∙ rec))
           (λ p kind. ap (λ (l : Ledger). told_of l.pool p) ledger ∙ is.pool p kind)
           is.formed
-          (staged_out (lay_of old.shape) m.world w before after (plain_release r) was refl (λ a. refl) (λ a. refl) is.staged)
+          (record {
+            live_before = is.staged.live_before;
+            edge_kinds = is.staged.edge_kinds;
+            zero_dirty = λ l p q. is.staged.zero_dirty l p (fewer l p 0 q);
+            one_hung = λ l p q. is.staged.one_hung l p (fewer l p 1 q);
+            in_range = λ l p stage q. is.staged.in_range l p stage (fewer l p stage q);
+          })
           is.clean,
       refl,
       record { no_count = ap (λ (x : World). cached_count (lay_of old.shape) x r.page) (sym is.world) ∙ count_cached d old r placed held ∙ none; is = refl },

@@ -6,14 +6,14 @@ use Rattle.page_device.specs.Meaning.{Meaning}
 use Rattle.page_layout.specs.Shape.{ShapeView, count_page, print_page, print_place}
 use Rattle.page_layout.specs.Tables.{print_entry_of}
 use Rattle.page_cache.specs.View.{CacheView, content_in, holds_in, is_there}
-use Rattle.std.proofs.lemmas.Bool.{and_from, or_right, true≢false}
+use Rattle.std.proofs.lemmas.Bool.{and_from, and_parts, not-true, or_right, true≢false}
 use Rattle.order_model.specs.Paths.{Closes}
 use Rattle.dep_graph.proofs.CountLemmas.{holds_placed}
 use Rattle.dep_graph.proofs.PathLemmas.{closes_before}
 use Rattle.order_model.specs.Pool.{after_zeroed}
 use Rattle.page_alloc.specs.Pool.{IsTold, PoolView, told_of}
 use Rattle.dep_graph.specs.Pages.{holds}
-use Rattle.dep_graph.specs.Lists.{GraphLists, dirty_in, entered, hung_in, live_in, node_count}
+use Rattle.dep_graph.specs.Lists.{GraphLists, barred_in, dirty_in, entered, hung_in, live_in, node_count}
 use Rattle.birth_marks.specs.Births.{SameBut, is_unborn_in}
 use Rattle.ref_counts.specs.Counts.{count_in}
 use Rattle.release_queue.specs.declared.Release.{Release}
@@ -82,8 +82,9 @@ clear_stands old c n r placed held same shape has ordered keeps clears = λ soun
 pub clears_print : (a b c n : Core) (r : Release) → IsPlaced a.shape r → count_of_release a r ≡ 1 → has_print_of a r ≡ true
     → b.engine.graph ≡ entered r.print_at a.engine.graph → SameHolds a b → ((q : ℕ) → page_in b q ≡ page_in a q) → OnlyEngine a b → node_count b.engine.graph ≤ node_count a.engine.graph + 1 → a.engine.graph.spare_nodes ≤ b.engine.graph.spare_nodes + 1
     → b.engine.tallies ≡ counted r.print_at a.engine.tallies → c.engine.graph.dirty ≡ b.engine.graph.dirty → c.engine.tallies ≡ b.engine.tallies
+    → (live_in c.engine.graph r.print_at r.count_at ≡ true) ⊎ (is_print_unborn b r ≡ true)
     → GrowsInto r.count_at b.engine.graph c.engine.graph → Takes 0 1 b.engine c.engine → c.engine.cache ≡ b.engine.cache → OnlyEngine b c → PrintsPage r.page None c n → ClearsPrint r a n
-clears_print a b c n r placed one had graph same pages rest nodes spare edited same_dirty same_tallies grows takes cache only printed =
+clears_print a b c n r placed one had graph same pages rest nodes spare edited same_dirty same_tallies ordered grows takes cache only printed =
     let shape : c.shape ≡ a.shape = only.shape ∙ rest.shape in
     let there : IsPlaced c.shape r = subst (λ (x : ShapeView). IsPlaced x r) (sym shape) placed in
     let ledger : c.ledger ≡ a.ledger = only.ledger ∙ rest.ledger in
@@ -113,6 +114,10 @@ clears_print a b c n r placed one had graph same pages rest nodes spare edited s
           ap (λ (x : Block). print_entry_of x (print_place p)) page_n ∙ printed.sets.others (print_place p) (λ e. ne (omega (arith, e, at, from, first))) ∙ ap (λ (x : Block). print_entry_of x (print_place p)) page_c;
       dirty = λ x. ap (λ (g : GraphLists). dirty_in g x) last ∙ ap (λ (l : List ℕ). holds l x) same_dirty ∙ ap (λ (g : GraphLists). dirty_in g x) graph ∙ holds_placed r.print_at a.engine.graph.dirty x
           ∙ sym (ap (λ (y : Bool). dirty_in a.engine.graph x || (y && eqb x r.print_at)) loses);
+      ordered = λ is. elim ordered [
+        | inl edge ↦ ap (λ (g : GraphLists). live_in g r.print_at r.count_at) last ∙ edge
+        | inr unborn ↦ absurd (true≢false (sym (sym (ap (λ (l : Ledger). is_unborn_in l.births (Print r.page) 1) rest.ledger) ∙ unborn) ∙ not-true _ (and_parts _ _ (and_parts _ _ is).1).1))
+      ];
       same_births = λ stays. absurd (true≢false (sym loses ∙ stays));
       births = subst (λ (l : Ledger). SameBut (Print r.page) l.births n.ledger.births) ledger printed.other_slots;
       tallies = ap (λ (e : EngineView). e.tallies) printed.only.engine ∙ same_tallies ∙ edited ∙ sym (ap (λ (y : Bool). cond y (counted r.print_at a.engine.tallies) a.engine.tallies) loses);
@@ -130,6 +135,9 @@ or_none : (x : Bool) → x ≡ (x || false)
 or_none true = refl
 or_none false = refl
 
+first_two : (x y z : Bool) → (x && (y && z)) ≡ true → (x && y) ≡ true
+first_two x y z h = and_from x y (and_parts x (y && z) h).0 (and_parts y z (and_parts x (y && z) h).1).0
+
 pub never_both : (x y : Bool) → y ≡ false → (x && y) ≡ false
 never_both true y e = e
 never_both false y e = refl
@@ -146,6 +154,7 @@ clears_none core r none stays = record {
   kept = λ more. refl;
   prints = λ p first ne on. refl;
   dirty = λ x. or_none (dirty_in core.engine.graph x) ∙ sym (ap (λ (y : Bool). dirty_in core.engine.graph x || (y && eqb x r.print_at)) stays);
+  ordered = λ is. absurd (true≢false (sym (first_two (eqb (count_of_release core r) 1) (has_print_of core r) (not (is_print_unborn core r)) is) ∙ stays));
   same_births = λ h. refl;
   births = record { recorded = λ s ne. refl; place = λ s ne. refl; value = λ s ne. refl; met = λ s v ne. refl };
   tallies = sym (ap (λ (y : Bool). cond y (counted r.print_at core.engine.tallies) core.engine.tallies) stays);
@@ -153,6 +162,12 @@ clears_none core r none stays = record {
   takes = takes_more 0 0 1 1 core.engine core.engine (takes_none core.engine) (omega arith) (omega arith);
   changes = omega arith;
 }
+
+-- a last print is one where pages and ledger are the same
+last_same : (a c : Core) (r : Release) → ((q : ℕ) → page_in c q ≡ page_in a q) → c.ledger ≡ a.ledger → is_last_print c r ≡ is_last_print a r
+last_same a c r pages ledger = ap (λ (p : Block). eqb (count_in p r.page) 1 && (has_print_of c r && not (is_print_unborn c r))) (pages r.count_at)
+    ∙ ap (λ (p : Block). eqb (count_of_release a r) 1 && (is_some (print_entry_of p (print_place r.page)) && not (is_print_unborn c r))) (pages r.print_at)
+    ∙ ap (λ (l : Ledger). eqb (count_of_release a r) 1 && (has_print_of a r && not (is_unborn_in l.births (Print r.page) 1))) ledger
 
 -- what the steps ask
 module _ (a b : Core) (i : ℕ) (r : Release) (can : CanApply i r a) (graph : b.engine.graph ≡ entered r.count_at a.engine.graph) where
@@ -197,17 +212,9 @@ module _ (a b : Core) (i : ℕ) (r : Release) (can : CanApply i r a) (graph : b.
     pub one_change : 0 < c.ledger.births.spare
     one_change = let le = can.changes in let e = ap (λ (l : Ledger). l.births.spare) ledger_same in omega (arith, le, e)
 
-    last_same : is_last_print c r ≡ is_last_print a r
-    last_same = ap (λ (p : Block). eqb (count_in p r.page) 1 && has_born c) (page_same r.count_at)
-        ∙ ap (λ (p : Block). eqb (count_of_release a r) 1 && (is_some (print_entry_of p (print_place r.page)) && not (is_print_unborn c r))) (page_same r.print_at)
-        ∙ ap (λ (l : Ledger). eqb (count_of_release a r) 1 && (has_print_of a r && not (is_unborn_in l.births (Print r.page) 1))) ledger_same
-      where
-        has_born : Core → Bool
-        has_born core = has_print_of core r && not (is_print_unborn core r)
-
     pub opens_print : is_last_print c r ≡ true → Closes (live_in c.engine.graph) r.print_at r.count_at → ⊥
     opens_print is closes = can.opens (inr (
-      sym last_same ∙ is,
+      sym (last_same a c r page_same ledger_same) ∙ is,
       closes_before (live_in a.engine.graph) (live_in c.engine.graph) r.count_at
           (λ x y e. grows.live x y (edges_same x y ∙ e)) (λ x y e. elim (grows.into x y e) [ inl was ↦ inl (sym (edges_same x y) ∙ was) | inr at ↦ inr at ]) r.print_at closes,
     ))
@@ -296,6 +303,11 @@ module _ (a b c e n : Core) (i : ℕ) (r : Release) (can : CanApply i r a) (plac
         dirty = λ x. ap (λ (g : GraphLists). dirty_in g x) last ∙ cleared.dirty x
             ∙ ap (λ (y : Bool). y || (loses_print c r && eqb x r.print_at)) (ap (λ (l : List ℕ). holds l x) same_dirty ∙ ap (λ (g : GraphLists). dirty_in g x) graph ∙ holds_placed r.count_at a.engine.graph.dirty x)
             ∙ ap (λ (y : Bool). (dirty_in a.engine.graph x || eqb x r.count_at) || (y && eqb x r.print_at)) loses_same ∙ or_then (dirty_in a.engine.graph x) (eqb x r.count_at) (loses_print a r && eqb x r.print_at);
+        map_ordered = record {
+          live = λ z is. ap (λ (g : GraphLists). live_in g r.map_at r.count_at) last ∙ cleared.grows.live r.map_at r.count_at (ordered.live z (touched_grows.dirty r.map_at is));
+          barred = λ z is. ap (λ (g : GraphLists). barred_in g r.map_at r.count_at) last ∙ cleared.grows.barred r.map_at r.count_at (ordered.barred z (touched_grows.hung r.map_at ∙ is));
+        };
+        print_ordered = λ is. ap (λ (g : GraphLists). live_in g r.print_at r.count_at) last ∙ cleared.ordered (last_same a c r page_c (only.ledger ∙ rest.ledger) ∙ is);
         same_births = λ stays. births_n ∙ cleared.same_births (loses_same ∙ stays) ∙ births_c;
         births = subst (λ y. SameBut (Print r.page) y n.ledger.births) births_c (subst (λ y. SameBut (Print r.page) c.ledger.births y) (sym births_n) cleared.births);
         zeroed = λ one. subst (λ (y : PoolView). IsTold a.shape (after_zeroed r.page (told_of y)) n.ledger.pool) pool_e (subst (λ (x : ShapeView). IsTold x (after_zeroed r.page (told_of e.ledger.pool)) n.ledger.pool) shape_e (low.zero (omega (arith, left, one))));

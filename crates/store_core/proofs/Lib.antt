@@ -45,5 +45,6 @@ pub mod QueueParts
 pub mod TakenOut
 pub mod PartLemmas
 pub mod PartSteps
+pub mod Opens
 pub mod PartOut
 pub mod PartStays

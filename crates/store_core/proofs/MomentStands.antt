@@ -1,5 +1,5 @@
 -- A core that stands for an array is a moment, and a moment that keeps the invariant stands.
-use Rattle.std.proofs.Common.{◌≡◌, ◌<◌, ℕ, Bool, true, refl, sym, ap, ◌∙◌, subst, List}
+use Rattle.std.proofs.Common.{◌≡◌, ℕ, Bool, true, refl, sym, ◌∙◌, subst, List}
 use Rattle.page_device.specs.Block.{Block}
 use Rattle.page_device.specs.Meaning.{Meaning}
 use Rattle.page_layout.specs.Shape.{ShapeView}
@@ -32,7 +32,13 @@ module _ (sound : Bool) (d : Meaning) (core : Core) (array : ℕ → List Block)
       values = slot_value;
       pool = s.pool;
       formed = s.kept.contents.well_formed.cached;
-      staged = record { dirty = s.kept.counts.lost_name_owes_release.dirty; hung = s.kept.counts.lost_name_owes_release.hung };
+      staged = record {
+        live_before = s.kept.counts.marks_and_edges.live_before;
+        edge_kinds = s.kept.counts.edge_kinds;
+        zero_dirty = λ l p q. s.kept.counts.lost_name_owes_release.dirty l p (s.kept.counts.lost_name_owes_release.in_range l p 0 q).0 q;
+        one_hung = λ l p q. s.kept.counts.lost_name_owes_release.hung l p (s.kept.counts.lost_name_owes_release.in_range l p 1 q).0 q;
+        in_range = s.kept.counts.lost_name_owes_release.in_range;
+      };
       clean = (over sound d core array s).clean;
     },
     refl,

@@ -1,7 +1,7 @@
 -- Moments that a core is after an edit.
-use Rattle.std.proofs.Common.{arith, ◌≡◌, ◌≢◌, ◌⊎◌, ◌↔◌, inl, inr, ◌<◌, ◌≤◌, ◌+◌, ◌-◌, ◌/◌, ◌%◌, ◌&&◌, ◌||◌, not, ℕ, suc, Bool, true, false, cond, refl, sym, ap, ◌∙◌, subst, List, [], ◌∷◌, ◌++◌, Option, Some, None, is_some, map, take, drop, eqb, eqb-true, eq-eqb, ne_eqb}
+use Rattle.std.proofs.Common.{arith, ◌≡◌, ◌≢◌, ◌↔◌, inl, inr, ◌<◌, ◌≤◌, ◌+◌, ◌-◌, ◌/◌, ◌%◌, ◌&&◌, ◌||◌, not, ℕ, suc, Bool, true, false, cond, refl, sym, ap, ◌∙◌, subst, List, [], ◌∷◌, ◌++◌, Option, Some, None, is_some, map, take, drop, eqb, eqb-true, eq-eqb, ne_eqb}
 use Rattle.std.specs.Prelude.{slice_get}
-use Rattle.std.proofs.lemmas.Bool.{and_from, and_parts, cases_Bool, cases_eq, not-true, or_left, or_right, true≢false}
+use Rattle.std.proofs.lemmas.Bool.{and_from, and_parts, cases_Bool, cases_eq, not-true, or_left, true≢false}
 use Rattle.std.proofs.lemmas.List.{map-append}
 use Rattle.page_device.specs.Block.{Block}
 use Rattle.page_device.specs.Meaning.{Meaning}
@@ -12,7 +12,7 @@ use Rattle.page_layout.proofs.FormedPages.{formed_count}
 use Rattle.page_cache.specs.View.{holds_in, is_there}
 use Rattle.order_model.specs.declared.Slot.{Slot}
 use Rattle.order_model.specs.declared.Slot.TheVariants.{Name, Print}
-use Rattle.order_model.specs.Calls.{Change, is_unborn, same_slot}
+use Rattle.order_model.specs.Calls.{same_slot}
 use Rattle.order_model.specs.Pool.{Told, after_zeroed}
 use Rattle.order_model.specs.World as plain
 use Rattle.order_model.specs.World.{IsData, Layout, Queued, World}
@@ -24,6 +24,8 @@ use Rattle.birth_marks.proofs.TableLemmas.{slot_is, slot_same}
 use Rattle.page_alloc.specs.Pool.{told_of}
 use Rattle.ref_counts.specs.Counts.{count_in}
 use Rattle.release_queue.specs.declared.Release.{Release}
+use Rattle.engine_model.specs.AnyDevice.{FewerQueued, IsOrdered}
+use Rattle.engine_model.proofs.Ordering.{give_up_order, put_order, queue_order}
 use Rattle.engine_model.specs.Births.{IsSlot, cached_value, has_print}
 use Rattle.engine_model.specs.Births as births
 use Rattle.engine_model.specs.Entries.{IsTable, cached_count, cached_print}
@@ -37,14 +39,14 @@ use Rattle.store_core.specs.declared.ledger.Ledger.{Ledger}
 use Rattle.store_core.specs.Layout.{lay_of, place_of}
 use Rattle.store_core.specs.Views.{page_in, plain_release, world_of}
 use Rattle.store_core.specs.Whole.{IsPlaced}
-use Rattle.store_core.specs.Applied.{count_of_release, has_print_of, is_last_print, is_print_unborn}
+use Rattle.store_core.specs.Applied.{count_of_release, is_last_print, is_print_unborn}
 use Rattle.store_core.specs.Edits.{LowersCount, Makes}
-use Rattle.store_core.specs.Moments.{AreStaged, IsMomentOf}
+use Rattle.store_core.specs.Moments.{IsMomentOf}
 use Rattle.store_core.specs.Printed.{PrintsPage}
 use Rattle.store_core.proofs.AppliedStands.{cached_held, some_print}
 use Rattle.store_core.proofs.Clean.{apart_pages}
 use Rattle.store_core.proofs.CountedStands.{sets_count}
-use Rattle.store_core.proofs.Edited.{cached_there, held_there}
+use Rattle.store_core.proofs.Edited.{cached_there}
 use Rattle.store_core.proofs.PrintedStands.{sets_print}
 use Rattle.store_core.proofs.Queued.{split_at}
 
@@ -52,14 +54,14 @@ use Rattle.store_core.proofs.Queued.{split_at}
 pub moment_of_parts : (d : Meaning) (old new : Core) → new.shape ≡ old.shape → (n : Moment) → world_of d new ≡ n.world → Remembers (place_of old.shape) new.ledger.births n.calls
     → ((s : Slot) → IsSlot (lay_of old.shape) s → recorded_in new.ledger.births s ≡ true → marks.value_in new.ledger.births s ≡ cached_value (lay_of old.shape) n.world s)
     → ((p : ℕ) → IsData (lay_of old.shape) p → told_of new.ledger.pool p ≡ n.pool p) → ((page : ℕ) → IsTable (lay_of old.shape) page → is_formed old.shape page (n.world.cached page) ≡ true)
-    → AreStaged (lay_of old.shape) n.world → ((a : ℕ) → n.world.dirty a ≡ false → n.world.cached a ≡ n.world.newest a) → IsMomentOf d new n
+    → IsOrdered (lay_of old.shape) n.world → ((a : ℕ) → n.world.dirty a ≡ false → n.world.cached a ≡ n.world.newest a) → IsMomentOf d new n
 moment_of_parts d old new shape n world remembers values pool formed staged clean = record {
   world = world;
   births = subst (λ (x : ShapeView). Remembers (place_of x) new.ledger.births n.calls) (sym shape) remembers;
   values = subst (λ (x : ShapeView). (s : Slot) → IsSlot (lay_of x) s → recorded_in new.ledger.births s ≡ true → marks.value_in new.ledger.births s ≡ cached_value (lay_of x) n.world s) (sym shape) values;
   pool = subst (λ (x : ShapeView). (p : ℕ) → IsData (lay_of x) p → told_of new.ledger.pool p ≡ n.pool p) (sym shape) pool;
   formed = subst (λ (x : ShapeView). (page : ℕ) → IsTable (lay_of x) page → is_formed x page (n.world.cached page) ≡ true) (sym shape) formed;
-  staged = subst (λ (x : ShapeView). AreStaged (lay_of x) n.world) (sym shape) staged;
+  staged = subst (λ (x : ShapeView). IsOrdered (lay_of x) n.world) (sym shape) staged;
   clean = clean;
 }
 
@@ -75,29 +77,28 @@ pub off_before : (x y : Bool) → (x ≡ true → y ≡ true) → y ≡ false �
 off_before true y f e = sym (f refl) ∙ e
 off_before false y f e = refl
 
--- contents and queue are the same, and what is marked is marked still
+-- contents and queue are the same, and what is dirty is dirty still
 pub record Marks (w v : World) : Type 0 where
   pub newest : (a : ℕ) → v.newest a ≡ w.newest a
   pub cached : (a : ℕ) → v.cached a ≡ w.cached a
   pub queue : v.queue ≡ w.queue
   pub dirty : (a : ℕ) → w.dirty a ≡ true → v.dirty a ≡ true
-  pub hung : (a : ℕ) → w.hung a ≡ true → v.hung a ≡ true
 
 pub marks_none : (w : World) → Marks w w
-marks_none w = record { newest = λ a. refl; cached = λ a. refl; queue = refl; dirty = λ a h. h; hung = λ a h. h }
+marks_none w = record { newest = λ a. refl; cached = λ a. refl; queue = refl; dirty = λ a h. h }
 
 pub marks_touched : (page : ℕ) (w : World) → Marks w (touched page w)
-marks_touched page w = record { newest = λ a. refl; cached = λ a. refl; queue = refl; dirty = λ a h. or_left _ _ h; hung = λ a h. h }
+marks_touched page w = record { newest = λ a. refl; cached = λ a. refl; queue = refl; dirty = λ a h. or_left _ _ h }
 
 pub marks_ordered : (before after : ℕ) (w : World) → Marks w (ordered before after w)
-marks_ordered before after w = record { newest = λ a. refl; cached = λ a. refl; queue = refl; dirty = λ a h. h; hung = λ a h. h }
+marks_ordered before after w = record { newest = λ a. refl; cached = λ a. refl; queue = refl; dirty = λ a h. h }
 
 pub marks_edge : (stage before after : ℕ) (w : World) → Marks w (map_edge stage before after w)
 marks_edge stage before after w = by (eqb stage 0) (eqb stage 1)
   where
     by : (x y : Bool) → Marks w (cond x (ordered before after w) (cond y (ordered_by_barrier before after w) w))
     by true y = marks_ordered before after w
-    by false true = record { newest = λ a. refl; cached = λ a. refl; queue = refl; dirty = λ a h. h; hung = λ a h. h }
+    by false true = record { newest = λ a. refl; cached = λ a. refl; queue = refl; dirty = λ a h. h }
     by false false = marks_none w
 
 pub marks_then : (u v w : World) → Marks u v → Marks v w → Marks u w
@@ -106,23 +107,19 @@ marks_then u v w f g = record {
   cached = λ a. g.cached a ∙ f.cached a;
   queue = g.queue ∙ f.queue;
   dirty = λ a h. g.dirty a (f.dirty a h);
-  hung = λ a h. g.hung a (f.hung a h);
 }
 
 same_value : (lay : Layout) (w v : World) (s : Slot) → v.cached (births.place_of lay s) ≡ w.cached (births.place_of lay s) → cached_value lay w s ≡ cached_value lay v s
 same_value lay w v s e = ap (births.value_in lay s) (sym e)
 
 -- where marks and edges alone are others
-pub marked : (d : Meaning) (old new : Core) (m : Moment) → IsMomentOf d old m → new.shape ≡ old.shape → new.ledger ≡ old.ledger → (w : World) → world_of d new ≡ w → Marks m.world w → IsMomentOf d new (in_state w m)
-marked d old new m is shape ledger w world more = moment_of_parts d old new shape (in_state w m) world
+pub marked : (d : Meaning) (old new : Core) (m : Moment) → IsMomentOf d old m → new.shape ≡ old.shape → new.ledger ≡ old.ledger → (w : World) → world_of d new ≡ w → Marks m.world w → IsOrdered (lay_of old.shape) w → IsMomentOf d new (in_state w m)
+marked d old new m is shape ledger w world more staged = moment_of_parts d old new shape (in_state w m) world
     (subst (λ (l : Ledger). Remembers (place_of old.shape) l.births m.calls) (sym ledger) is.births)
     (λ s slot rec. ap (λ (l : Ledger). marks.value_in l.births s) ledger ∙ is.values s slot (sym (ap (λ (l : Ledger). recorded_in l.births s) ledger) ∙ rec) ∙ same_value (lay_of old.shape) m.world w s (more.cached (births.place_of (lay_of old.shape) s)))
     (λ p kind. ap (λ (l : Ledger). told_of l.pool p) ledger ∙ is.pool p kind)
     (λ page kind. ap (is_formed old.shape page) (more.cached page) ∙ is.formed page kind)
-    (record {
-      dirty = λ l p lt q. more.dirty (map_page l) (is.staged.dirty l p lt (subst (λ (rs : List plain.Release). Queued rs l p 0) more.queue q));
-      hung = λ l p lt q. more.hung (map_page l) (is.staged.hung l p lt (subst (λ (rs : List plain.Release). Queued rs l p 1) more.queue q));
-    })
+    staged
     (λ a off. more.cached a ∙ is.clean a (off_before (m.world.dirty a) (w.dirty a) (more.dirty a) off) ∙ sym (more.newest a))
 
 -- the edge from the map page, as the stage asks for it
@@ -154,8 +151,12 @@ pub print_cached : (d : Meaning) (core : Core) (r : Release) → IsPlaced core.s
     → cached_print (lay_of core.shape) (world_of d core) r.page ≡ print_entry_of (page_in core r.print_at) (print_place r.page)
 print_cached d core r placed held = ap (λ (c : Block). print_entry_of c (print_place r.page)) (cached_held core r.print_at (print_page core.shape r.page) placed.print_at held d)
 
-pub unborn_known : (d : Meaning) (core : Core) (m : Moment) (r : Release) → IsMomentOf d core m → is_print_unborn core r ≡ (known_at (lay_of core.shape) m).unborn_print r.page
-unborn_known d core m r is = unborn_remembered (place_of core.shape) core.ledger.births m.calls is.births (Print r.page) 1
+-- births answer as the moment knows
+pub unborn_known : (d : Meaning) (core : Core) (m : Moment) (p : ℕ) → IsMomentOf d core m → is_unborn_in core.ledger.births (Print p) 1 ≡ (known_at (lay_of core.shape) m).unborn_print p
+unborn_known d core m p is = unborn_remembered (place_of core.shape) core.ledger.births m.calls is.births (Print p) 1
+
+pub name_known : (d : Meaning) (core : Core) (m : Moment) (l p : ℕ) → IsMomentOf d core m → is_unborn_in core.ledger.births (Name l) p ≡ (known_at (lay_of core.shape) m).unborn_name l p
+name_known d core m l p is = unborn_remembered (place_of core.shape) core.ledger.births m.calls is.births (Name l) p
 
 is_some_of : (o : Option (List ℕ)) (x : List ℕ) → o ≡ Some x → is_some o ≡ true
 is_some_of o x e = ap is_some e
@@ -166,7 +167,7 @@ pub last_alike : (d : Meaning) (core : Core) (m : Moment) (r : Release) → IsMo
 last_alike d core m r is placed count_held print_held =
     let count = count_cached d core r placed count_held in
     let print = print_cached d core r placed print_held in
-    let unborn = unborn_known d core m r is in (
+    let unborn = unborn_known d core m r.page is in (
       λ last.
           let one = and_parts _ _ last in
           let two = and_parts _ _ one.1 in
@@ -207,12 +208,9 @@ queued_out (x ∷ xs) ys r l p stage (inr t) = inr (queued_out xs ys r l p stage
 pub split_plain : (rs : List Release) (i : ℕ) (r : Release) → slice_get rs i ≡ Some r → map plain_release rs ≡ map plain_release (take i rs) ++ plain_release r ∷ map plain_release (drop (suc i) rs)
 split_plain rs i r queued = ap (map plain_release) (split_at rs i r queued) ∙ map-append plain_release (take i rs) (r ∷ drop (suc i) rs)
 
--- fewer releases are staged still
-pub staged_out : (lay : Layout) (w v : World) (xs ys : List plain.Release) (r : plain.Release) → w.queue ≡ xs ++ r ∷ ys → v.queue ≡ xs ++ ys → ((a : ℕ) → v.dirty a ≡ w.dirty a) → ((a : ℕ) → v.hung a ≡ w.hung a) → AreStaged lay w → AreStaged lay v
-staged_out lay w v xs ys r was now dirty hung staged = record {
-  dirty = λ l p lt q. dirty (lay.map_page l) ∙ staged.dirty l p lt (subst (λ (rs : List plain.Release). Queued rs l p 0) (sym was) (queued_out xs ys r l p 0 (subst (λ (rs : List plain.Release). Queued rs l p 0) now q)));
-  hung = λ l p lt q. hung (lay.map_page l) ∙ staged.hung l p lt (subst (λ (rs : List plain.Release). Queued rs l p 1) (sym was) (queued_out xs ys r l p 1 (subst (λ (rs : List plain.Release). Queued rs l p 1) now q)));
-}
+-- fewer are queued
+pub fewer_out : (rs xs ys : List plain.Release) (r : plain.Release) → rs ≡ xs ++ r ∷ ys → FewerQueued (xs ++ ys) rs
+fewer_out rs xs ys r was l p stage q = subst (λ (k : List plain.Release). Queued k l p stage) (sym was) (queued_out xs ys r l p stage q)
 
 -- a count of a page that is well formed is none too many
 few_counts : (shape : ShapeView) (p : ℕ) (c : Block) → 1 ≤ p → p ≤ shape.pages → is_formed shape (count_page shape p) c ≡ true → count_in c p ≤ 2147483647
@@ -288,7 +286,7 @@ module _ (d : Meaning) (old new : Core) (m : Moment) (is : IsMomentOf d old m) (
       ∙ same_value (lay_of old.shape) m.world out.world s (put_other at low.page m.world (births.place_of (lay_of old.shape) s) (slot_apart old.shape s slot r.page is_data)))
       pool_is
       (λ page kind. put_formed old.shape at low.page m.world sets_left.formed page (is.formed page kind))
-      (staged_out (lay_of old.shape) m.world out.world before after (plain_release r) queue_was refl (λ a. refl) (λ a. refl) is.staged)
+      (queue_order (lay_of old.shape) m.world is.staged at low.page (before ++ after) (fewer_out m.world.queue before after (plain_release r) queue_was))
       (put_clean at low.page m.world dirty_at is.clean)
 
 -- a print goes
@@ -336,7 +334,7 @@ module _ (d : Meaning) (old new : Core) (m : Moment) (is : IsMomentOf d old m) (
       value_is
       (λ q kind. ap (λ (l : Ledger). told_of l.pool q) printed.ledger ∙ is.pool q kind)
       (λ page kind. put_formed old.shape print_at printed.page m.world sets_none.formed page (is.formed page kind))
-      (record { dirty = λ l q lt k. is.staged.dirty l q lt k; hung = λ l q lt k. is.staged.hung l q lt k })
+      (put_order (lay_of old.shape) m.world is.staged print_at printed.page)
       (put_clean print_at printed.page m.world (ap (λ (w : World). w.dirty print_at) (sym is.world) ∙ dirty) is.clean)
 
 -- a data page is given up
@@ -352,10 +350,7 @@ is_given d old new m is p kind shape ledger makes =
     ∙ same_value (lay_of old.shape) m.world (given_up at m.world) s (kept (births.place_of (lay_of old.shape) s) (slot_table old.shape s slot)))
     (λ q is_q. ap (λ (l : Ledger). told_of l.pool q) ledger ∙ is.pool q is_q)
     (λ page table. ap (is_formed old.shape page) (kept page table) ∙ is.formed page table)
-    (record {
-      dirty = λ l q lt queued. and_from _ _ (is.staged.dirty l q lt queued) (ap not (ne_eqb (map_page l) at (apart.table_data (map_page l) p (inl (l, lt, refl)) kind)));
-      hung = λ l q lt queued. is.staged.hung l q lt queued;
-    })
+    (give_up_order (lay_of old.shape) m.world is.staged apart p kind)
     (λ a off. elim (cases_eq a at) [
       | inl e ↦ ap (λ (b : Bool). cond b (m.world.newest at) (m.world.cached a)) (eq-eqb a at e) ∙ ap m.world.newest (sym e)
       | inr ne ↦ ap (λ (b : Bool). cond b (m.world.newest at) (m.world.cached a)) (ne_eqb a at ne) ∙ is.clean a (off_before (m.world.dirty a) (m.world.dirty a && not (eqb a at)) (λ h. and_from _ _ h (ap not (ne_eqb a at ne))) off)

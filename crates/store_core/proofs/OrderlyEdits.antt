@@ -42,6 +42,7 @@ use Rattle.store_core.specs.Whole.{IsPlaced}
 use Rattle.store_core.proofs.Clean.{apart_pages}
 use Rattle.store_core.proofs.CountedStands.{sets_count}
 use Rattle.store_core.proofs.NamedStands.{sets_name}
+use Rattle.store_core.proofs.PlacedStands.{some_kept}
 use Rattle.store_core.proofs.PrintedStands.{sets_print}
 use Rattle.store_core.proofs.Edited.{held_there, page_is}
 use Rattle.store_core.proofs.Looks.{all_both, closes_more, count_same, last_still, print_same, waits_on}
@@ -202,15 +203,11 @@ module _ (b p : ℕ) (old new : Core) (first : 1 ≤ p) (last : p ≤ old.shape.
     ordered = λ d. ordered_in d new old.shape only.shape (subst (IsOrdered (lay_of old.shape)) (sym (world d)) (give_up_order (lay_of old.shape) (world_of d old) (o.ordered d) (apart_pages old.shape) p (first, last)));
     looked = looked_on b old new (IsPlaced old.shape) old.whole.placed (ap (λ (l : Ledger). l.queue) only.ledger) (λ r placed ne. waits_on old new r (avoids r placed)
         (last_still old new r (count_same old new r (page_stays r.count_at (not_count r placed))) (print_same old new r (page_stays r.print_at (not_print r placed))) (same_born r))) o.looked;
-    formed = formed_fewer old new only.shape (λ q there. stays_there (eqb q D) (content_in old.engine.cache q) (content_in new.engine.cache q) (gone.cache.content q) there) o.formed;
+    formed = formed_fewer old new only.shape (λ q there. some_kept (eqb q D) (content_in old.engine.cache q) (content_in new.engine.cache q) (gone.cache.content q) there) o.formed;
   }
     where
       page_stays : (q : ℕ) → q ≢ D → page_in new q ≡ page_in old q
       page_stays q ne = ap (λ (c : Option Block). held_or c zero_block) (gone.cache.content q ∙ ap (λ (z : Bool). cond z None (content_in old.engine.cache q)) (ne_eqb q D ne))
-
-      stays_there : (z : Bool) (was now : Option Block) → now ≡ cond z None was → is_some now ≡ true → now ≡ was
-      stays_there true was now e h = absurd (true≢false (sym h ∙ ap is_some e))
-      stays_there false was now e h = e
 
       none : (x : ℕ) → live_in old.engine.graph x D ≡ false
       none x = data_open (lay_of old.shape) (world_of some_device old) (o.ordered some_device) (apart_pages old.shape) x p (first, last)

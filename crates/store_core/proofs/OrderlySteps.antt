@@ -64,6 +64,12 @@ formed_fewer old new shape same f q there =
     subst (λ (s : ShapeView). is_formed s q (page_in new q) ≡ true) (sym shape)
     (ap (λ (o : Option Block). is_formed old.shape q (held_or o zero_block)) e ∙ f q (ap is_some (sym e) ∙ there))
 
+pub formed_back : (less : ℕ → ℕ) (old new : Core) → GivesBack less old new → AreFormed old → AreFormed new
+formed_back less old new k = formed_fewer old new k.rest.shape k.stay
+
+pub formed_cache : (old new : Core) → new.shape ≡ old.shape → new.engine.cache ≡ old.engine.cache → AreFormed old → AreFormed new
+formed_cache old new shape cache = formed_fewer old new shape (λ q there. ap (λ (c : CacheView). content_in c q) cache)
+
 -- the same pages
 pub formed_same : (old new : Core) → new.shape ≡ old.shape → ((q : ℕ) → is_there new.engine.cache q ≡ is_there old.engine.cache q) → ((q : ℕ) → page_in new q ≡ page_in old q) → AreFormed old → AreFormed new
 formed_same old new shape there same f q h =

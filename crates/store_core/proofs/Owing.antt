@@ -15,6 +15,7 @@ use Rattle.store_core.specs.declared.Core.{Core}
 use Rattle.store_core.specs.declared.ledger.Ledger.{Ledger}
 use Rattle.store_core.specs.Applied.{AppliesRelease}
 use Rattle.store_core.specs.Edits.{NamesBlock, is_name_unborn, named_in, owed, release_of}
+use Rattle.store_core.specs.Frames.{SameHolds}
 use Rattle.store_core.specs.Owed.{IsProvided, KeepsHolds, Spends, held_for, held_for_all}
 use Rattle.store_core.specs.Quiet.{Flows, GivesBack, KeepsRoom, Quiet, none, once, unmoved}
 use Rattle.store_core.specs.Room.{HasRoom}
@@ -122,6 +123,13 @@ holds_quiet d e old new k = record { holds = λ q. let same = ap (λ (x : QueueL
 
 pub holds_flow : (d e : Meaning) (old new : Core) → Flows d e old new → KeepsHolds old new
 holds_flow d e old new k = record { holds = λ q. let same = held_same new.ledger.queue.releases old.ledger.queue.releases q k.queue.releases in let now = k.holds q in omega (arith, same, now) }
+
+pub holds_same : (old new : Core) → SameHolds old new → new.ledger.queue.releases ≡ old.ledger.queue.releases → KeepsHolds old new
+holds_same old new k queue = record { holds = λ q. let same = ap (λ (l : List Release). held_for_all l q) queue in let now = k.holds q in omega (arith, same, now) }
+
+pub owed_more : (more : ℕ → ℕ) (old new : Core) → ((q : ℕ) → holds_in new.engine.cache q ≡ holds_in old.engine.cache q + more q) → new.ledger.queue.releases ≡ old.ledger.queue.releases
+    → ((q : ℕ) → held_for_all old.ledger.queue.releases q ≤ holds_in old.engine.cache q) → (q : ℕ) → held_for_all new.ledger.queue.releases q ≤ holds_in new.engine.cache q
+owed_more more old new holds queue h q = let same = ap (λ (l : List Release). held_for_all l q) queue in let now = holds q in let was = h q in omega (arith, same, now, was)
 
 -- what was reserved for a command, of which it took no more than it asked, is enough for one release more
 pub spent_provided : (nodes edges changes : ℕ) (old new : Core) → HasRoom nodes edges changes old → Spends nodes edges changes old new → length new.ledger.queue.releases ≤ length old.ledger.queue.releases + 1

@@ -1,6 +1,6 @@
 -- A data page that gets its content: the state, and what the core stands for.
 use Rattle.std.proofs.Common.{arith, ◌≡◌, ◌≢◌, inl, inr, ◌<◌, ◌≤◌, ◌+◌, ◌^◌, ℕ, Bool, true, false, cond, refl, sym, ap, ◌∙◌, subst, Option, Some, None, Result, Ok, Err, OnOk, eqb, eq-eqb, ne_eqb, is_some, nat_lt}
-use Rattle.std.proofs.lemmas.Bool.{cases_eq, cases_Bool, or_left}
+use Rattle.std.proofs.lemmas.Bool.{cases_eq, cases_Bool, or_left, true≢false}
 use Rattle.page_device.specs.Block.{Block}
 use Rattle.page_device.specs.Meaning.{Meaning}
 use Rattle.page_layout.specs.Shape.{data_page, total}
@@ -74,6 +74,11 @@ one_hold old new page block t = let e : holds_in new page ≡ holds_in old page 
 some_is : (a b : Block) → Some a ≡ Some b → a ≡ b
 some_is a b e = cc
 
+-- what is there was not let go
+pub some_kept : (gone : Bool) (was now : Option Block) → now ≡ cond gone None was → is_some now ≡ true → now ≡ was
+some_kept true was now e h = absurd (true≢false (sym h ∙ ap is_some e))
+some_kept false was now e h = e
+
 module _ (old : Core) (mid new : CacheView) (page : ℕ) (block now : Block) (t : TakenIn page block old.engine.cache mid) (value : content_in mid page ≡ Some now) (e : Edited mid new page now) where
   now_is : now ≡ block
   now_is = some_is now block (sym value ∙ t.here)
@@ -115,6 +120,10 @@ module _ (old : Core) (mid new : CacheView) (page : ℕ) (block now : Block) (t 
     | inl is ↦ subst (λ x. x < total old.shape) (sym is) lt
     | inr ne ↦ old.whole.within a (some_old (t.gone a) (content_in old.engine.cache a) (ap is_some (sym (other a ne ∙ t.others a ne)) ∙ h))
   ]
+
+  -- no other page came in
+  pub placed_came : (q : ℕ) → q ≢ page → is_there new q ≡ true → content_in new q ≡ content_in old.engine.cache q
+  placed_came q ne there = some_kept (t.gone q) (content_in old.engine.cache q) (content_in new q) (other q ne ∙ t.others q ne) there
 
   -- who holds what, and what is there
   pub placed_holds : (q : ℕ) → holds_in new q ≡ holds_in old.engine.cache q + cond (eqb q page) 1 0

@@ -28,7 +28,7 @@ use Rattle.store_core.specs.Stands.{StandsFor, moment_of}
 use Rattle.store_core.proofs.Edited.{cached_there, edit_stands}
 use Rattle.store_core.proofs.Clean.{apart_pages}
 
-index_few : (shape : ShapeView) (p : ℕ) → 1 ≤ p → p ≤ shape.pages → (p - 1) / 170 < print_pages shape
+pub index_few : (shape : ShapeView) (p : ℕ) → 1 ≤ p → p ≤ shape.pages → (p - 1) / 170 < print_pages shape
 index_few shape p first last = omega (arith, first, last)
 
 -- a print of a page that was well formed

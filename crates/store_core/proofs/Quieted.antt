@@ -18,6 +18,7 @@ use Rattle.dep_graph.specs.Pages.{holds}
 use Rattle.page_alloc.specs.Pool.{told_of}
 use Rattle.birth_marks.specs.Births.{BirthsView, Remembers, Same, recorded_in, value_in}
 use Rattle.birth_marks.proofs.CallLemmas.{same_remembered}
+use Rattle.engine_model.specs.AnyDevice.{IsOrdered}
 use Rattle.engine_model.specs.Births.{IsSlot, cached_value}
 use Rattle.engine_model.specs.Disk.{newest_on}
 use Rattle.engine_model.specs.Entries.{IsTable}
@@ -29,10 +30,10 @@ use Rattle.store_core.specs.declared.ledger.Ledger.{Ledger}
 use Rattle.store_core.specs.Layout.{lay_of, place_of}
 use Rattle.store_core.specs.Views.{IsKnown, IsOver, held_or, world_in, world_of}
 use Rattle.store_core.specs.Whole.{IsWhole}
+use Rattle.store_core.specs.Moments.{IsMomentOf}
 use Rattle.store_core.specs.Stands.{EndsDone, IsFit, Passes, StandsFor}
 use Rattle.store_core.specs.Quiet.{Flows, GivesBack, Quiet, SameCached, SameGraph, SameReleases, SameRest, none, once}
 use Rattle.store_core.proofs.Calls.{counts_none, no_moment}
-use Rattle.store_core.specs.Moments.{AreStaged, IsMomentOf}
 use Rattle.store_core.proofs.Clean.{over}
 use Rattle.store_core.proofs.Flowed.{room_then, same_room, table_held}
 use Rattle.store_core.proofs.Stood.{images_fit, passes_same, passes_then, stands_then}
@@ -255,7 +256,7 @@ same_moment d old new rest world m is =
           (λ s slot rec. births.slots.value s ∙ is.values s slot (sym (births.slots.recorded s) ∙ rec));
       pool = subst (λ (x : ShapeView). (p : ℕ) → IsData (lay_of x) p → told_of new.ledger.pool p ≡ m.pool p) (sym rest.shape) pool;
       formed = subst (λ (x : ShapeView). (page : ℕ) → IsTable (lay_of x) page → is_formed x page (m.world.cached page) ≡ true) (sym rest.shape) is.formed;
-      staged = subst (λ (x : ShapeView). AreStaged (lay_of x) m.world) (sym rest.shape) is.staged;
+      staged = subst (λ (x : ShapeView). IsOrdered (lay_of x) m.world) (sym rest.shape) is.staged;
       clean = is.clean;
     }
 

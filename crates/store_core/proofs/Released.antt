@@ -1,12 +1,11 @@
 -- A release that is applied: what its last step leaves, and all of them.
-use Rattle.std.proofs.Common.{arith, ◌≡◌, ◌≢◌, ◌⊎◌, inl, inr, ◌<◌, ◌≤◌, ◌+◌, ◌-◌, ℕ, Bool, true, false, cond, if◌then◌else◌, refl, sym, ap, ◌∙◌, subst, List, Option, None, is_some, not, ◌&&◌, ◌||◌, eqb, eqb-true, eq-eqb, ne_eqb}
+use Rattle.std.proofs.Common.{arith, ◌≡◌, ◌≢◌, inl, inr, ◌≤◌, ◌+◌, ◌-◌, ℕ, Bool, true, false, cond, if◌then◌else◌, refl, sym, ap, ◌∙◌, subst, List, Option, None, is_some, not, ◌&&◌, ◌||◌, eqb, eqb-true, ne_eqb}
 use Rattle.std.proofs.lemmas.Bool.{and_from, and_parts, cases_Bool, not-true, true≢false}
 use Rattle.page_device.specs.Block.{Block, zero_block}
-use Rattle.page_device.specs.Meaning.{Meaning}
 use Rattle.page_layout.specs.Shape.{ShapeView, data_page, print_place}
 use Rattle.page_layout.specs.Tables.{print_entry_of}
-use Rattle.page_cache.specs.View.{CacheView, content_in, holds_in, is_there}
-use Rattle.dep_graph.specs.Lists.{GraphLists, barred_in, dirty_in, hung_in, is_ready, live_in, node_count, waits_in}
+use Rattle.page_cache.specs.View.{content_in, holds_in, is_there}
+use Rattle.dep_graph.specs.Lists.{barred_in, dirty_in, hung_in, is_ready, live_in, node_count, waits_in}
 use Rattle.dep_graph.specs.Pages.{holds}
 use Rattle.dep_graph.proofs.ReadyLemmas.{none_waits, waited_for}
 use Rattle.order_model.specs.Pool.{after_zeroed}
@@ -20,46 +19,22 @@ use Rattle.flush_engine.specs.Edits.{GivenUp}
 use Rattle.flush_engine.specs.Tallies.{left_out}
 use Rattle.store_core.specs.declared.Core.{Core}
 use Rattle.store_core.specs.declared.ledger.Ledger.{Ledger}
-use Rattle.store_core.specs.Applied.{AppliesRelease, CanApply, GrowsBut, LosesContent, LowersRelease, count_of_release, edited_for, is_loose, loses_at, loses_print}
+use Rattle.store_core.specs.Applied.{AppliesRelease, CanApply, LosesContent, LowersRelease, count_of_release, is_loose, loses_at, loses_print}
 use Rattle.store_core.specs.Frames.{OnlyEngine}
 use Rattle.store_core.specs.Views.{held_or, page_in}
 use Rattle.store_core.specs.Whole.{IsPlaced}
 use Rattle.store_core.proofs.AppliedStands.{count_table, never_both, print_table}
 use Rattle.store_core.proofs.Clean.{apart_pages}
 use Rattle.store_core.proofs.Moved.{off_before}
-use Rattle.store_core.proofs.Grown.{takes_none, takes_then}
+use Rattle.store_core.proofs.Grown.{takes_then}
 
--- no page is lost
-kept_all : (b x y : Bool) → x ≡ false → b ≡ (b && not (x && y))
-kept_all true x y e = sym (ap (λ (z : Bool). not (z && y)) e)
-kept_all false x y e = refl
-
-pub content_stays : (core : Core) (r : Release) → (eqb (count_of_release core r) 0 && is_loose core r) ≡ false → LosesContent r core core
-content_stays core r stays =
-    let none : (q : ℕ) → loses_at (count_of_release core r) core r q ≡ false = λ q. ap (λ (x : Bool). x && eqb q (data_page core.shape r.page)) stays in
-    record {
-      shape = refl;
-      ledger = refl;
-      others = λ q kept. refl;
-      there = λ q. kept_all (is_there core.engine.cache q) (eqb (count_of_release core r) 0 && is_loose core r) (eqb q (data_page core.shape r.page)) stays;
-      holds = λ q. refl;
-      dirty = λ a. kept_all (dirty_in core.engine.graph a) (eqb (count_of_release core r) 0 && is_loose core r) (eqb a (data_page core.shape r.page)) stays;
-      grows = record {
-        hung = λ a. refl;
-        live = λ a b kept h. h;
-        none_from = λ a b lost. absurd (true≢false (sym lost ∙ none a));
-        none_to = λ a b lost. absurd (true≢false (sym lost ∙ none b));
-        barred = λ a b h. h;
-        into = λ a b h. inl h;
-        barred_into = λ a b h. inl h;
-      };
-      takes = takes_none core.engine;
-      tallies = sym (ap (λ (x : Bool). cond x (left_out (data_page core.shape r.page) core.engine.tallies) core.engine.tallies) stays);
-    }
+some_kept : (x : Bool) → x ≡ (x && true)
+some_kept true = refl
+some_kept false = refl
 
 some_left : (b : Bool) (o : Option Block) → is_some (cond b None o) ≡ (is_some o && not b)
 some_left true o = sym (never_both (is_some o) false refl)
-some_left false o = kept_all (is_some o) false true refl
+some_left false o = some_kept (is_some o)
 
 fewer_nodes : (b : Bool) (n m : ℕ) → m ≡ (if b then n - 1 else n) → m ≤ n + 0
 fewer_nodes true n m e = omega (arith, e)
@@ -108,6 +83,9 @@ module _ (a b n : Core) (i : ℕ) (r : Release) (can : CanApply i r a) (placed :
 
   off_print : data_at ≢ r.print_at
   off_print e = (apart_pages a.shape).table_data r.print_at r.page (print_table a.shape r placed) (placed.first, placed.last) (sym e)
+
+  off_map : data_at ≢ r.map_at
+  off_map e = (apart_pages a.shape).table_data r.map_at r.page (inl (r.block, placed.block, placed.map_at)) (placed.first, placed.last) (sym e)
 
   off_both : (x y z u v : Bool) → x ≡ (y || (z || (u && v))) → z ≡ false → v ≡ false → x ≡ y
   off_both x true z u v e f g = e
@@ -185,6 +163,11 @@ module _ (a b n : Core) (i : ℕ) (r : Release) (can : CanApply i r a) (placed :
           into = λ x y h. elim (last.grows.into x y h) [ inl was ↦ low.grows.into x y was | inr at ↦ inr at ];
           barred_into = λ x y h. elim (last.grows.barred_into x y h) [ inl was ↦ low.grows.barred_into x y was | inr at ↦ inr at ];
         };
+        map_ordered = record {
+          live = λ z is. last.grows.live r.map_at r.count_at (kept_at r.map_at off_map) (low.map_ordered.live z is);
+          barred = λ z is. last.grows.barred r.map_at r.count_at (low.map_ordered.barred z is);
+        };
+        print_ordered = λ is. last.grows.live r.print_at r.count_at (kept_at r.print_at off_print) (low.print_ordered is);
         takes = two;
         changes = omega (arith, changes_b, changes_n);
         same_births = λ stays. ap (λ (l : Ledger). l.births) last.ledger ∙ low.same_births stays;

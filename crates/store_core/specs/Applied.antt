@@ -81,6 +81,7 @@ pub record ClearsPrint (r : Release) (old new : Core) : Type 0 where
   pub kept : 1 < count_of_release old r → page_in new r.print_at ≡ page_in old r.print_at
   pub prints : (p : ℕ) → 1 ≤ p → p ≢ r.page → print_page old.shape p ≡ r.print_at → print_entry_of (page_in new r.print_at) (print_place p) ≡ print_entry_of (page_in old r.print_at) (print_place p)
   pub dirty : (a : ℕ) → dirty_in new.engine.graph a ≡ (dirty_in old.engine.graph a || (loses_print old r && eqb a r.print_at))
+  pub ordered : is_last_print old r ≡ true → live_in new.engine.graph r.print_at r.count_at ≡ true
   pub grows : GrowsInto r.count_at old.engine.graph new.engine.graph
   pub takes : Takes 1 1 old.engine new.engine
   pub changes : old.ledger.births.spare ≤ new.ledger.births.spare + 1
@@ -112,6 +113,8 @@ pub record LowersRelease (i : ℕ) (r : Release) (old new : Core) : Type 0 where
   pub others : (q : ℕ) → q ≢ r.count_at → q ≢ r.print_at → page_in new q ≡ page_in old q
   pub same : SameHolds old new
   pub dirty : (a : ℕ) → dirty_in new.engine.graph a ≡ (dirty_in old.engine.graph a || (eqb a r.count_at || (loses_print old r && eqb a r.print_at)))
+  pub map_ordered : MapOrdered r old.engine.graph new.engine.graph
+  pub print_ordered : is_last_print old r ≡ true → live_in new.engine.graph r.print_at r.count_at ≡ true
   pub grows : GrowsInto r.count_at old.engine.graph new.engine.graph
   pub takes : Takes 2 2 old.engine new.engine
   pub changes : old.ledger.births.spare ≤ new.ledger.births.spare + 1
@@ -157,6 +160,8 @@ pub record AppliesRelease (i : ℕ) (r : Release) (old new : Core) : Type 0 wher
   pub holds : (q : ℕ) → holds_in new.engine.cache q ≡ holds_in old.engine.cache q
   pub dirty : (a : ℕ) → dirty_in new.engine.graph a
       ≡ ((dirty_in old.engine.graph a || (eqb a r.count_at || (loses_print old r && eqb a r.print_at))) && not (loses_at (count_of_release old r - 1) old r a))
+  pub map_ordered : MapOrdered r old.engine.graph new.engine.graph
+  pub print_ordered : is_last_print old r ≡ true → live_in new.engine.graph r.print_at r.count_at ≡ true
   pub grows : GrowsBut r.count_at (loses_at (count_of_release old r - 1) old r) old.engine.graph new.engine.graph
   pub takes : Takes 2 2 old.engine new.engine
   pub changes : old.ledger.births.spare ≤ new.ledger.births.spare + 1

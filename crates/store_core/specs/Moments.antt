@@ -1,13 +1,14 @@
 -- The plain moments that a core over a device is, and the steps between them.
-use Rattle.std.specs.Prelude.{◌≡◌, ◌+◌, ◌<◌, ℕ, suc, List, map, take, drop, false, true}
+use Rattle.std.specs.Prelude.{◌≡◌, ◌+◌, ℕ, suc, List, map, take, drop, false, true}
 use Rattle.page_device.specs.Meaning.{Meaning}
 use Rattle.page_layout.specs.Formed.{is_formed}
 use Rattle.order_model.specs.declared.Slot.{Slot}
 use Rattle.order_model.specs.World as plain
-use Rattle.order_model.specs.World.{IsData, Layout, Queued, World}
+use Rattle.order_model.specs.World.{IsData}
 use Rattle.birth_marks.specs.Births.{Remembers, recorded_in, value_in}
 use Rattle.page_alloc.specs.Pool.{told_of}
 use Rattle.release_queue.specs.declared.Release.{Release}
+use Rattle.engine_model.specs.AnyDevice.{IsOrdered}
 use Rattle.engine_model.specs.Births.{IsSlot, cached_value}
 use Rattle.engine_model.specs.Entries.{IsTable, cached_count}
 use Rattle.engine_model.specs.Invariant.{Moment}
@@ -16,19 +17,14 @@ use Rattle.store_core.specs.declared.Core.{Core}
 use Rattle.store_core.specs.Layout.{lay_of, place_of}
 use Rattle.store_core.specs.Views.{plain_release, world_of}
 
--- the map page of a release is dirty at its first stage, and hung at its second
-pub record AreStaged (lay : Layout) (w : World) : Type 0 where
-  pub dirty : (l p : ℕ) → l < lay.blocks → Queued w.queue l p 0 → w.dirty (lay.map_page l) ≡ true
-  pub hung : (l p : ℕ) → l < lay.blocks → Queued w.queue l p 1 → w.hung (lay.map_page l) ≡ true
-
--- The core is the state of the moment. Births remember its calls and know what the slots have, and the pool was told what it was told. Each cached table page is well formed, the map pages of releases are marked as their stages say, and a page that is not dirty is cached as the device has it.
+-- The core is the state of the moment. Births remember its calls and know what the slots have, and the pool was told what it was told. Each cached table page is well formed, marks and edges are in order and as the stages of releases say, and a page that is not dirty is cached as the device has it.
 pub record IsMomentOf (d : Meaning) (core : Core) (m : Moment) : Type 0 where
   pub world : world_of d core ≡ m.world
   pub births : Remembers (place_of core.shape) core.ledger.births m.calls
   pub values : (s : Slot) → IsSlot (lay_of core.shape) s → recorded_in core.ledger.births s ≡ true → value_in core.ledger.births s ≡ cached_value (lay_of core.shape) m.world s
   pub pool : (p : ℕ) → IsData (lay_of core.shape) p → told_of core.ledger.pool p ≡ m.pool p
   pub formed : (page : ℕ) → IsTable (lay_of core.shape) page → is_formed core.shape page (m.world.cached page) ≡ true
-  pub staged : AreStaged (lay_of core.shape) m.world
+  pub staged : IsOrdered (lay_of core.shape) m.world
   pub clean : (a : ℕ) → m.world.dirty a ≡ false → m.world.cached a ≡ m.world.newest a
 
 -- over each device: whichever moment the old core is, the new one is too

@@ -46,7 +46,7 @@ impl Core {
     ghost use Rattle.page_layout.specs.Shape.{total};
     ghost use Rattle.page_cache.specs.View.{content_in, holds_in, is_there};
     ghost use Rattle.page_cache.specs.Calls.{FetchCall, HasFetchCause};
-    ghost use Rattle.store_core.specs.Fetching.{OnlyBrings};
+    ghost use Rattle.store_core.specs.Fetching.{Fetches, OnlyBrings};
     ghost use Rattle.store_core.specs.Orderly.{KeepsFormed};
     ghost use Rattle.store_core.specs.Quiet.{GivesBack, Quiet, none, once};
 
@@ -59,6 +59,7 @@ impl Core {
         requires within { page < total self.old.shape }
         ensures cause { HasFetchCause result (D.seen device.old) (D.seen device.new) }
         ensures call { FetchCall result (D.seen device.old) (D.seen device.new) }
+        ensures fetches { Fetches page result (D.seen device.old) (D.seen device.new) self.old.engine.cache self.new.engine.cache }
         ensures answer { IfOk result (λ read. read ≡ not (is_there self.old.engine.cache page)) }
         ensures there { OnOk result (is_there self.new.engine.cache page ≡ true) }
         ensures newest { result ≡ Ok true → (D.seen device.old).honest ≡ true → (D.seen device.old).tells_pages ≡ true → content_in self.new.engine.cache page ≡ slice_get (newest (D.seen device.old).state) page }

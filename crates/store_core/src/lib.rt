@@ -29,14 +29,14 @@ mod tables;
 mod totals;
 mod waves;
 
-pub use blocking::blocked_alike;
+pub use blocking::{blocked_alike, known_at_moments};
 use flush_engine::Engine;
 pub use laws::{image_is_good, images_are_fit, moments_stand, moves_stand, settled, weaker};
 pub use ledger::Ledger;
 pub use opening::opened;
 pub use orderly::{
-    but_for_none, data_is_orderly, entries_are_orderly, marks_are_orderly, quiet_is_orderly,
-    releases_are_orderly,
+    but_for_none, data_is_orderly, edges_open, entries_are_orderly, entries_fit, marks_are_orderly,
+    quiet_is_orderly, releases_are_orderly, releases_wait, tables_stay_formed,
 };
 use page_layout::Shape;
 pub use passing::Passed;

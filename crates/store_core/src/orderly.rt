@@ -1,9 +1,12 @@
 // Marks, edges, queue and tables, over what leaves them in order.
-ghost use Rattle.std.specs.Prelude.{◌≡◌, ◌<◌, ◌≤◌, ℕ, List, Option, Some, true, cond, map, remove, slice_get};
+ghost use Rattle.std.specs.Prelude.{◌≡◌, ◌≢◌, ◌<◌, ◌≤◌, ℕ, List, Option, Some, false, true, cond, map, remove, slice_get};
 ghost use Rattle.page_device.specs.Meaning.{Meaning};
-ghost use Rattle.page_layout.specs.Shape.{count_page, data_page, map_page, print_page};
-ghost use Rattle.page_cache.specs.View.{content_in, holds_in};
-ghost use Rattle.dep_graph.specs.Lists.{dirty_in, entered};
+ghost use Rattle.page_layout.specs.Formed.{is_formed};
+ghost use Rattle.page_layout.specs.Shape.{count_page, data_page, map_page, print_page, print_place};
+ghost use Rattle.page_layout.specs.Tables.{IsPrintEntry};
+ghost use Rattle.page_cache.specs.View.{content_in, holds_in, is_there};
+ghost use Rattle.order_model.specs.Paths.{Closes};
+ghost use Rattle.dep_graph.specs.Lists.{dirty_in, entered, live_in};
 ghost use Rattle.ref_counts.specs.Counts.{count_in};
 ghost use Rattle.release_queue.specs.Queued.{after_change, unmarked};
 ghost use Rattle.release_queue.specs.declared.Release.{Release};
@@ -15,7 +18,7 @@ ghost use Rattle.store_core.specs.Applied.{AppliesRelease, CanApply};
 ghost use Rattle.store_core.specs.Edits.{Barred, LowersCount, Makes, NamesBlock, RaisesCount, named_in};
 ghost use Rattle.store_core.specs.Frames.{OnlyEngine, SameHolds};
 ghost use Rattle.store_core.specs.Layout.{lay_of, top};
-ghost use Rattle.store_core.specs.Orderly.{AreFormed, HasToWait, IsOrderly, IsOrderlyBut, KeepsOrderBut, OnlyCame};
+ghost use Rattle.store_core.specs.Orderly.{AreFormed, FewerEdges, HasToWait, IsOrderly, IsOrderlyBut, KeepsFormed, KeepsOrderBut, OnlyCame, Waits};
 ghost use Rattle.store_core.specs.Owed.{IsProvided};
 ghost use Rattle.store_core.specs.Printed.{PrintsPage};
 ghost use Rattle.store_core.specs.Quiet.{GivesBack, Quiet};
@@ -33,6 +36,13 @@ pub fn but_for_none()
 pub fn quiet_is_orderly()
     ensures quiet { (b : ℕ) (more : ℕ → ℕ) (d e : Meaning) (old new : Core) → IsProvided old → Quiet more d e old new → AreFormed new → IsOrderlyBut b old → IsOrderlyBut b new }
     ensures back { (b : ℕ) (less : ℕ → ℕ) (old new : Core) → IsProvided new → GivesBack less old new → AreFormed new → IsOrderlyBut b old → IsOrderlyBut b new }
+{}
+
+/// Table pages stay well formed where holds are given back, where the cache stays, and where one well-formed page came in.
+pub fn tables_stay_formed()
+    ensures back { (less : ℕ → ℕ) (old new : Core) → GivesBack less old new → KeepsFormed old new }
+    ensures cache { (old new : Core) → new.shape ≡ old.shape → new.engine.cache ≡ old.engine.cache → KeepsFormed old new }
+    ensures came { (page : ℕ) (old new : Core) → new.shape ≡ old.shape → is_formed old.shape page (page_in new page) ≡ true → OnlyCame page old new → KeepsFormed old new }
 {}
 
 /// And over a mark and an edge of an allowed kind.
@@ -84,4 +94,30 @@ pub fn releases_are_orderly()
     ensures look { (old new : Core) → new.shape ≡ old.shape → new.engine ≡ old.engine → new.ledger.births ≡ old.ledger.births → (i : ℕ)
         → new.ledger.queue.releases ≡ unmarked i old.ledger.queue.releases → ((r : Release) → slice_get old.ledger.queue.releases i ≡ Some r → HasToWait old r)
         → IsOrderly old → IsOrderly new }
+{}
+
+/// Edges that close no cycle, with no search: none leads to a data page, so none from a data page closes one; nor does one from or to a
+/// page that is not dirty; and what closes none closes none where there are fewer edges.
+pub fn edges_open()
+    ensures none_to_data { (b : ℕ) (core : Core) → IsOrderlyBut b core → (a p : ℕ) → 1 ≤ p → p ≤ core.shape.pages → live_in core.engine.graph a (data_page core.shape p) ≡ false }
+    ensures from_data { (b : ℕ) (core : Core) → IsOrderlyBut b core → (p after : ℕ) → 1 ≤ p → p ≤ core.shape.pages → after ≢ data_page core.shape p
+        → Closes (live_in core.engine.graph) (data_page core.shape p) after → ⊥ }
+    ensures clean_before { (core : Core) (before after : ℕ) → before ≢ after → dirty_in core.engine.graph before ≡ false → Closes (live_in core.engine.graph) before after → ⊥ }
+    ensures clean_after { (core : Core) (before after : ℕ) → before ≢ after → dirty_in core.engine.graph after ≡ false → Closes (live_in core.engine.graph) before after → ⊥ }
+    ensures fewer { (old new : Core) (before after : ℕ) → FewerEdges old new → (Closes (live_in old.engine.graph) before after → ⊥) → Closes (live_in new.engine.graph) before after → ⊥ }
+{}
+
+/// A queued release waits for its map page as its stage says.
+pub fn releases_wait()
+    ensures { (b : ℕ) (core : Core) (i : ℕ) (r : Release) → IsOrderlyBut b core → slice_get core.ledger.queue.releases i ≡ Some r → Waits core.engine.graph r }
+{}
+
+/// An entry of a page that is there is one of the format: a name is that of a data page or none, a count is not above the highest one,
+/// and a print is well formed.
+pub fn entries_fit()
+    ensures name { (core : Core) (block : ℕ) → AreFormed core → block < core.shape.blocks → is_there core.engine.cache (map_page block) ≡ true → named_in core block ≤ core.shape.pages }
+    ensures count { (core : Core) (p : ℕ) → AreFormed core → 1 ≤ p → p ≤ core.shape.pages → is_there core.engine.cache (count_page core.shape p) ≡ true
+        → count_in (page_in core (count_page core.shape p)) p ≤ top }
+    ensures print { (core : Core) (p : ℕ) → AreFormed core → 1 ≤ p → p ≤ core.shape.pages → is_there core.engine.cache (print_page core.shape p) ≡ true
+        → IsPrintEntry (page_in core (print_page core.shape p)) (print_place p) }
 {}

@@ -43,6 +43,7 @@ impl Core {
     ghost use Rattle.flush_engine.specs.Tallies.{counted};
     ghost use Rattle.engine_model.specs.SmallSteps.{placed};
     ghost use Rattle.store_core.specs.Frames.{OnlyEngine};
+    ghost use Rattle.store_core.specs.Orderly.{OnlyCame};
     ghost use Rattle.store_core.specs.Placed.{IsFreePage, MakesOver, PlaceStands, SameCore};
     ghost use Rattle.store_core.specs.Quiet.{Quiet, none};
     ghost use Rattle.store_core.specs.Views.{page_in};
@@ -98,6 +99,7 @@ impl Core {
         ensures quiet { OnErr result ((d : Meaning) → Quiet none d d self.old self.new) }
         ensures holds { OnOk result ((q : ℕ) → holds_in self.new.engine.cache q ≡ holds_in self.old.engine.cache q + cond (eqb q (data_page self.old.shape p)) 1 0) }
         ensures held { OnOk result ((q : ℕ) → 0 < holds_in self.old.engine.cache q → content_in self.new.engine.cache q ≡ content_in self.old.engine.cache q) }
+        ensures came { OnlyCame (data_page self.old.shape p) self.old self.new }
         ensures content { OnOk result (content_in self.new.engine.cache (data_page self.old.shape p) ≡ Some from.now) }
         ensures graph { OnOk result (self.new.engine.graph ≡ entered (data_page self.old.shape p) self.old.engine.graph) }
         ensures dirty { OnOk result ((a : ℕ) → dirty_in self.new.engine.graph a ≡ (dirty_in self.old.engine.graph a || eqb a (data_page self.old.shape p))) }

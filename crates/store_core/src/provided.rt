@@ -9,7 +9,7 @@ ghost use Rattle.flush_engine.specs.Edits.{Ordered};
 ghost use Rattle.store_core.specs.declared.Core.{Core};
 ghost use Rattle.store_core.specs.Applied.{AppliesRelease};
 ghost use Rattle.store_core.specs.Edits.{Barred, NamesBlock, RaisesCount, is_name_unborn, named_in, release_of};
-ghost use Rattle.store_core.specs.Frames.{OnlyEngine};
+ghost use Rattle.store_core.specs.Frames.{OnlyEngine, SameHolds};
 ghost use Rattle.store_core.specs.Owed.{IsProvided, KeepsHolds, Spends, held_for, held_for_all};
 ghost use Rattle.store_core.specs.Printed.{PrintsPage};
 ghost use Rattle.store_core.specs.Quiet.{Flows, GivesBack, Quiet, none};
@@ -29,12 +29,17 @@ pub fn owed_pages_are_held()
     ensures print_page { (core : Core) (i : ℕ) (r : Release) → IsProvided core → slice_get core.ledger.queue.releases i ≡ Some r → 0 < holds_in core.engine.cache r.print_at }
 {}
 
-/// Holds that move with the queue: over quiet parts, over what flows and over parts after one another. What is owed is held still.
+/// Holds that move with the queue: over quiet parts, over what flows, over an edit and over parts after one another. What is owed is
+/// held still then, and where more holds were taken.
 pub fn holds_move()
     ensures quiet { (d e : Meaning) (old new : Core) → Quiet none d e old new → KeepsHolds old new }
     ensures flows { (d e : Meaning) (old new : Core) → Flows d e old new → KeepsHolds old new }
+    ensures edit { (old new : Core) → SameHolds old new → new.ledger.queue.releases ≡ old.ledger.queue.releases → KeepsHolds old new }
     ensures then { (a b c : Core) → KeepsHolds a b → KeepsHolds b c → KeepsHolds a c }
     ensures owed { (old new : Core) → KeepsHolds old new → ((q : ℕ) → held_for_all old.ledger.queue.releases q ≤ holds_in old.engine.cache q)
+        → (q : ℕ) → held_for_all new.ledger.queue.releases q ≤ holds_in new.engine.cache q }
+    ensures more { (more : ℕ → ℕ) (old new : Core) → ((q : ℕ) → holds_in new.engine.cache q ≡ holds_in old.engine.cache q + more q)
+        → new.ledger.queue.releases ≡ old.ledger.queue.releases → ((q : ℕ) → held_for_all old.ledger.queue.releases q ≤ holds_in old.engine.cache q)
         → (q : ℕ) → held_for_all new.ledger.queue.releases q ≤ holds_in new.engine.cache q }
 {}
 

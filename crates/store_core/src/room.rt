@@ -67,6 +67,8 @@ impl Core {
     /// Whether a Live edge from one page to the other would close a cycle. It costs what the graph's `closes` does.
     pub fn closes(&mut self, before: u32, after: u32) -> bool
         ensures closes { (result ≡ true) ↔ Closes (live_in self.old.engine.graph) before after }
+        ensures same { self.new ≡ self.old }
+        ensures engine { self.new.engine ≡ self.old.engine }
         ensures quiet { (d : Meaning) → Quiet none d d self.old self.new }
     {
         closes_in(&mut self.engine, before, after)
@@ -84,7 +86,7 @@ impl Core {
     fn has_place(&self, nodes: u32) -> bool
         ensures place { result ≡ true → eqb (length self.now.ledger.queue.releases) self.now.ledger.queue.limit ≡ false }
         ensures within { result ≡ true → node_count self.now.engine.graph + (nodes + 2 * owed self.now) ≤ self.now.engine.room }
-        ensures crowded { result ≡ false → IsCrowded nodes self.now }
+        ensures crowded { (result ≡ false) ↔ IsCrowded nodes self.now }
     {
         if self.ledger.queue.full() {
             return false;
@@ -101,8 +103,9 @@ impl Core {
     /// no memory is found. Constant where the room is there; else all that the graph or the births keep may move.
     pub fn reserve(&mut self, nodes: u32, edges: u32, changes: u32) -> Result<(), NoRoom>
         ensures ok { OnOk result (HasRoom nodes edges changes self.new) }
+        ensures cache { self.new.engine.cache ≡ self.old.engine.cache }
         ensures quiet { (d : Meaning) → Quiet none d d self.old self.new }
-        ensures full { result ≡ Err Full → IsCrowded nodes self.old }
+        ensures full { (result ≡ Err Full) ↔ IsCrowded nodes self.old }
     {
         if !self.has_place(nodes) {
             return Err(NoRoom::Full);
@@ -121,6 +124,7 @@ impl Core {
     // Room for at least so many further nodes, edges and changes. The only error is a want of memory.
     fn reserve_in_all(&mut self, all: Numbers) -> Result<(), NoRoom>
         ensures rest { SameRest self.old self.new }
+        ensures cache { self.new.engine.cache ≡ self.old.engine.cache }
         ensures quiet { (d : Meaning) → Quiet none d d self.old self.new }
         ensures ok { OnOk result (IsReserved all self.new) }
         ensures err { result ≡ Err Full → ⊥ }

@@ -1,4 +1,4 @@
-use Rattle.std.proofs.Common.{arith, ◌<◌, sym, subst}
+use Rattle.std.proofs.Common.{arith, sym, subst}
 use Rattle.page_layout.specs.Shape.{ShapeView}
 use Rattle.store_core.specs.Whole.{IsPlaced}
 use Rattle.store_core.proofs.AppliedLaws.{laws_compose}

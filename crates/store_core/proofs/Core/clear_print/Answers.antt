@@ -59,7 +59,7 @@ set_print-requires-clause-spare c = subst (λ (l : Ledger). 0 < l.births.spare) 
 pub returns-clause-cleared : goal.returns-clause-cleared
 returns-clause-cleared c = clears_print c.args.self.now c.touch.new.self c.order_print.new.self c.set_print.new.self c.args.release c.requires.placed c.requires.one c.requires.had
     c.touch.ensures.graph c.touch.ensures.same c.touch.ensures.pages c.touch.ensures.rest c.touch.ensures.nodes c.touch.ensures.spare_nodes
-    c.touch.ensures.tallies c.order_print.ensures.dirty c.order_print.ensures.tallies
+    c.touch.ensures.tallies c.order_print.ensures.dirty c.order_print.ensures.tallies c.order_print.ensures.ordered
     c.order_print.ensures.grows c.order_print.ensures.takes c.order_print.ensures.cache c.order_print.ensures.rest c.set_print.ensures.printed
 
 pub returns-clause-stands : goal.returns-clause-stands

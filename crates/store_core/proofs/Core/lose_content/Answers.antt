@@ -1,15 +1,14 @@
-use Rattle.std.proofs.Common.{◌≡◌, ◌∙◌, ◌&&◌, sym, ap, ℕ, Bool, true, false, eqb, eq-eqb}
+use Rattle.std.proofs.Common.{◌≡◌, ◌∙◌, sym, ap, ℕ, false, eq-eqb}
 use Rattle.std.proofs.lemmas.Bool.{and_from, and_parts, not-true}
 use Rattle.page_layout.specs.Shape.{data_page}
 use Rattle.dep_graph.specs.Lists.{waits_in}
 use Rattle.ref_counts.specs.Counts.{count_in}
-use Rattle.store_core.specs.Applied.{count_of_release, is_loose}
+use Rattle.store_core.specs.Applied.{count_of_release}
 use Rattle.store_core.specs.Views.{page_in}
-use Rattle.store_core.proofs.AppliedLaws.{goes_away, stays_there}
-use Rattle.store_core.proofs.AppliedStands.{never_both}
+use Rattle.store_core.proofs.AppliedLaws.{goes_away}
 use Rattle.store_core.proofs.Moved.{count_cached}
-use Rattle.store_core.proofs.Released.{content_lost, content_stays}
 use Rattle.store_core.proofs.OrderlyEdits.{give_up_orderly}
+use Rattle.store_core.proofs.Released.{content_lost}
 use Rattle.store_core.proofs.Core.lose_content.Goals as goal
 
 pub returns-then-loose-clause-lost : goal.returns-then-loose-clause-lost

@@ -8,7 +8,7 @@ use Rattle.flush_engine.specs.Tallies.{counted}
 use Rattle.engine_model.specs.SmallSteps.{placed}
 use Rattle.store_core.specs.Views.{world_of}
 use Rattle.store_core.proofs.Marked.{entered_count, entered_dirty}
-use Rattle.store_core.proofs.PlacedStands.{engine_lent, one_hold, place_stands, placed_content, placed_held, placed_holds, placed_world, taken_lent, within_placed}
+use Rattle.store_core.proofs.PlacedStands.{engine_lent, one_hold, place_stands, placed_came, placed_content, placed_held, placed_holds, placed_world, taken_lent, within_placed}
 use Rattle.store_core.proofs.Quieted.{quiet_contents, rest_cache}
 use Rattle.store_core.proofs.Core.place.Goals as goal
 
@@ -131,3 +131,14 @@ returns-clause-nodes c =
 
 pub returns-clause-tallies : goal.returns-clause-tallies
 returns-clause-tallies c = ap (λ (x : ℕ). counted x c.args.self.now.engine.tallies) c.data_place-at.ensures.page
+
+pub returns-in-Err-clause-came : goal.returns-in-Err-clause-came
+returns-in-Err-clause-came c q ne there = (subst (λ (k : CacheView). Same k c.take_in.new.cache) c.cache.ensures.now c.in-Err.ensures.err).content q
+
+pub returns-clause-came : goal.returns-clause-came
+returns-clause-came c q ne there =
+    let core = c.args.self.now in
+    let at = c.data_place-at.result in
+    let t = taken_lent core.engine.cache c.cache.result.now c.take_in.new.cache at at c.args.from.now c.cache.ensures.now refl c.in-Ok.ensures.ok in
+    let e = c.edits_one_page.ensures c.take_in.new.cache at c.touch.result.now (one_hold core.engine.cache c.take_in.new.cache at c.args.from.now t) in
+    placed_came core c.take_in.new.cache (with_content c.take_in.new.cache at c.touch.result.now) at c.args.from.now c.touch.result.now t c.touch.ensures.value e q (λ is. ne (is ∙ c.data_place-at.ensures.page)) there

@@ -28,3 +28,9 @@ returns-in-Err-reserve_nodes-clause-rest c = rest_engine c.args.self.now _ refl 
 
 pub returns-in-Err-reserve_nodes-clause-quiet : goal.returns-in-Err-reserve_nodes-clause-quiet
 returns-in-Err-reserve_nodes-clause-quiet c d = quiet_same d c.args.self.now _ (returns-in-Err-reserve_nodes-clause-rest c) (ap (λ (e : EngineView). e.cache) c.in-Err-reserve_nodes.ensures.err)
+
+pub returns-in-Ok-reserve_nodes-clause-cache : goal.returns-in-Ok-reserve_nodes-clause-cache
+returns-in-Ok-reserve_nodes-clause-cache c = ap (λ (e : EngineView). e.cache) c.in-Ok-reserve_nodes.ensures.ok
+
+pub returns-in-Err-reserve_nodes-clause-cache : goal.returns-in-Err-reserve_nodes-clause-cache
+returns-in-Err-reserve_nodes-clause-cache c = ap (λ (e : EngineView). e.cache) c.in-Err-reserve_nodes.ensures.err
