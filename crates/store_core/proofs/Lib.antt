@@ -46,3 +46,5 @@ pub mod TakenOut
 pub mod PartLemmas
 pub mod PartSteps
 pub mod Opens
+pub mod PartOut
+pub mod PartStays

@@ -17,9 +17,9 @@ use Rattle.store_core.specs.Owed.{KeepsHolds, Spends, held_for_all}
 use Rattle.store_core.specs.Passing.{Forgets, Frees, PassFrame, was_freed}
 use Rattle.store_core.specs.PassParts.{PartByLaws, PartFrom, PassPart}
 use Rattle.store_core.specs.Views.{plain_release}
-use Rattle.store_core.proofs.Grown.{takes_more, takes_none, takes_then}
 use Rattle.store_core.proofs.Owing.{holds_then}
 use Rattle.store_core.proofs.QueueParts.{leaves_then}
+use Rattle.store_core.proofs.Spending.{spends_more, spends_then}
 
 -- what goes with pages that are forgotten
 gone_both : {A : Type 0} (f g : Bool) (o : Option A) → cond g None (cond f None o) ≡ cond (f || g) None o
@@ -85,10 +85,7 @@ frame_then k l a b c x y = record {
       let then = y.fewer q in
       let moves = y.holds.holds q in
       y.held q some (omega (arith, first, none)) ∙ x.held q (omega (arith, first, then, none, moves, some)) none;
-  spends = record {
-    engine = takes_more (2 * k + 2 * l) (2 * k + 2 * l) (2 * (k + l)) (2 * (k + l)) a.engine c.engine (takes_then (2 * k) (2 * k) (2 * l) (2 * l) a.engine b.engine c.engine x.spends.engine y.spends.engine) (omega arith) (omega arith);
-    births = let first = x.spends.births in let then = y.spends.births in omega (arith, first, then);
-  };
+  spends = spends_more (2 * k + 2 * l) (2 * k + 2 * l) (k + l) (2 * (k + l)) (2 * (k + l)) (k + l) a c (omega arith) (omega arith) (omega arith) (spends_then (2 * k) (2 * k) k (2 * l) (2 * l) l a b c x.spends y.spends);
 }
 
 -- the laws

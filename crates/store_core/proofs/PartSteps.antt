@@ -26,13 +26,13 @@ use Rattle.engine_model.specs.SmallPass.{Applies, Leaves, SmallPass}
 use Rattle.engine_model.specs.Tight.{live_pages}
 use Rattle.store_core.specs.declared.Core.{Core}
 use Rattle.store_core.specs.declared.ledger.Ledger.{Ledger}
-use Rattle.store_core.specs.Applied.{is_last_print}
+use Rattle.store_core.specs.Applied.{Takes, is_last_print}
 use Rattle.store_core.specs.Frames.{KeepsStands}
 use Rattle.store_core.specs.Layout.{lay_of, place_of}
 use Rattle.store_core.specs.Moments.{IsMomentOf, queued_after, queued_before}
-use Rattle.store_core.specs.Orderly.{HasToWait, IsOrderly}
+use Rattle.store_core.specs.Orderly.{HasToWait, IsLooked, IsOrderly}
 use Rattle.store_core.specs.Owed.{IsProvided, held_for, held_for_all}
-use Rattle.store_core.specs.Passing.{Forgets, Frees, PassFrame, was_freed}
+use Rattle.store_core.specs.Passing.{Forgets, Frees, PassFrame, looked, was_freed}
 use Rattle.store_core.specs.PassParts.{IsPassing, LeavesFrom, PartFrom, PartLeaves, PassPart, TakesOut, freed_pages}
 use Rattle.store_core.specs.Views.{plain_release, world_in, world_of}
 use Rattle.store_core.specs.Whole.{IsPlaced}
@@ -40,21 +40,17 @@ use Rattle.store_core.proofs.Alike.{to_engine}
 use Rattle.store_core.proofs.Clean.{apart_pages}
 use Rattle.store_core.proofs.Grown.{takes_none}
 use Rattle.store_core.proofs.Moved.{last_alike, moment_of_parts}
+use Rattle.store_core.proofs.OrderlyReleases.{plain_unmarked}
 use Rattle.store_core.proofs.Owing.{HasPages, all_at, held_removed, length_removed, pages_held}
 use Rattle.store_core.proofs.PartLemmas.{forgets_none, frees_none, part_then}
 use Rattle.store_core.proofs.Queued.{placed_at}
 use Rattle.store_core.proofs.QueueParts.{drop_at, drop_looked, drop_removed, held_looked, leaves_looked, leaves_removed, marked_is, take_looked, take_removed, unmarked_same}
+use Rattle.store_core.proofs.Spending.{spends_none}
 use Rattle.store_core.proofs.TakenOut.{taken_count, taken_live, taken_lower, taken_other, taken_print}
 
 -- the same parts, but for marks
 abbrev pub SameButLooks : ℕ → Core → Core → Type 0
 SameButLooks i a b = (b.shape ≡ a.shape) × (b.engine ≡ a.engine) × (b.ledger ≡ record a.ledger { queue = record a.ledger.queue { releases = unmarked i a.ledger.queue.releases } })
-
-plain_looked : (rs : List Release) (i : ℕ) → map plain_release (unmarked i rs) ≡ map plain_release rs
-unfolding unmarked
-plain_looked [] i = refl
-plain_looked (x ∷ rs) zero = refl
-plain_looked (x ∷ rs) (suc i) = ap (λ (l : List plain.Release). plain_release x ∷ l) (plain_looked rs i)
 
 -- the pages of a queued release are held
 pub count_held : (core : Core) (i : ℕ) (r : Release) → IsProvided core → slice_get core.ledger.queue.releases i ≡ Some r → 0 < holds_in core.engine.cache r.count_at
@@ -64,12 +60,12 @@ pub print_held : (core : Core) (i : ℕ) (r : Release) → IsProvided core → s
 print_held core i r provided at = (all_at (HasPages (holds_in core.engine.cache)) core.ledger.queue.releases i r at (pages_held core.ledger.queue.releases (holds_in core.engine.cache) provided.holds_owed)).1
 
 module _ (a b : Core) (i : ℕ) (same : SameButLooks i a b) where
-  releases_looked : b.ledger.queue.releases ≡ unmarked i a.ledger.queue.releases
+  pub releases_looked : b.ledger.queue.releases ≡ unmarked i a.ledger.queue.releases
   releases_looked = ap (λ (l : Ledger). l.queue.releases) same.2
 
   pub world_looked : (d : Meaning) → world_of d b ≡ world_of d a
   world_looked d = ap (λ (e : EngineView). world_in d e.cache e.graph b.ledger.queue) same.1
-      ∙ ap (λ (rs : List plain.Release). record (world_of d a) { queue = rs }) (ap (map plain_release) releases_looked ∙ plain_looked a.ledger.queue.releases i)
+      ∙ ap (λ (rs : List plain.Release). record (world_of d a) { queue = rs }) (ap (map plain_release) releases_looked ∙ plain_unmarked a b same.0 same.1 (ap (λ (l : Ledger). l.births) same.2) i a.ledger.queue.releases)
 
   moment_looked : (d : Meaning) (m : Moment) → IsMomentOf d a m → IsMomentOf d b m
   moment_looked d m is = moment_of_parts d a b same.0 m (world_looked d ∙ is.world)
@@ -78,7 +74,7 @@ module _ (a b : Core) (i : ℕ) (same : SameButLooks i a b) where
       (λ p kind. ap (λ (l : Ledger). told_of l.pool p) same.2 ∙ is.pool p kind)
       is.formed is.staged is.clean
 
-  frame_looked : PassFrame 0 a b
+  pub frame_looked : PassFrame 0 a b
   frame_looked =
       let held : (q : ℕ) → held_for_all b.ledger.queue.releases q ≡ held_for_all a.ledger.queue.releases q = λ q. ap (λ (l : List Release). held_for_all l q) releases_looked ∙ held_looked a.ledger.queue.releases i q in
       let births : b.ledger.births.spare ≡ a.ledger.births.spare = ap (λ (l : Ledger). l.births.spare) same.2 in
@@ -89,7 +85,7 @@ module _ (a b : Core) (i : ℕ) (same : SameButLooks i a b) where
         holds = record { holds = λ q. let h = held q in let e : holds_in b.engine.cache q ≡ holds_in a.engine.cache q = ap (λ (e : EngineView). holds_in e.cache q) same.1 in omega (arith, h, e) };
         fewer = λ q. let h = held q in omega (arith, h);
         held = λ q some none. ap (λ (e : EngineView). content_in e.cache q) same.1;
-        spends = record { engine = subst (λ (e : EngineView). Rattle.store_core.specs.Applied.Takes 0 0 a.engine e) (sym same.1) (takes_none a.engine); births = omega (arith, births) };
+        spends = record { engine = subst (λ (e : EngineView). Takes 0 0 a.engine e) (sym same.1) (takes_none a.engine); births = omega (arith, births) };
       }
 
   -- a release that has to wait
@@ -101,7 +97,7 @@ module _ (a b : Core) (i : ℕ) (same : SameButLooks i a b) where
         (to_engine a.shape (known_at (lay_of a.shape) m) (world_of d a) r (is_last_print a r) placed (last_alike d a m r is placed (count_held a i r provided at) (print_held a i r provided at)) waits)
 
     kept_looked : map plain_release (take (suc i) b.ledger.queue.releases) ≡ map plain_release (take i a.ledger.queue.releases) ++ plain_release r ∷ []
-    kept_looked = ap (λ (l : List Release). map plain_release (take (suc i) l)) releases_looked ∙ ap (map plain_release) (take_looked a.ledger.queue.releases i r at) ∙ map-append plain_release (take i a.ledger.queue.releases) (Rattle.store_core.specs.Passing.looked r ∷ [])
+    kept_looked = ap (λ (l : List Release). map plain_release (take (suc i) l)) releases_looked ∙ ap (map plain_release) (take_looked a.ledger.queue.releases i r at) ∙ map-append plain_release (take i a.ledger.queue.releases) (looked r ∷ [])
 
     todo_looked : map plain_release (drop (suc i) b.ledger.queue.releases) ≡ map plain_release (drop (suc i) a.ledger.queue.releases)
     todo_looked = ap (λ (l : List Release). map plain_release (drop (suc i) l)) releases_looked ∙ ap (map plain_release) (drop_looked a.ledger.queue.releases i)
@@ -139,7 +135,7 @@ part_none a x i = record {
     holds = record { holds = λ q. refl };
     fewer = λ q. omega arith;
     held = λ q some none. refl;
-    spends = record { engine = takes_none a.engine; births = omega arith };
+    spends = spends_none a;
   };
   order = λ zs left. (zs, left, refl);
   forgets = forgets_none x;
@@ -148,7 +144,7 @@ part_none a x i = record {
 
 -- an unmarked release that a pass comes to has to wait
 waits_at : (a : Core) (i : ℕ) (r : Release) → IsOrderly a → slice_get a.ledger.queue.releases i ≡ Some r → is_marked a.ledger.queue.releases i ≡ false → HasToWait a r
-waits_at a i r orderly at off = all_at (Rattle.store_core.specs.Orderly.IsLooked a) a.ledger.queue.releases i r at orderly.looked (sym (marked_is a.ledger.queue.releases i r at) ∙ off)
+waits_at a i r orderly at off = all_at (IsLooked a) a.ledger.queue.releases i r at orderly.looked (sym (marked_is a.ledger.queue.releases i r at) ∙ off)
 
 pub part_over : (a : Core) (x : PrintsView) (provided : IsProvided a) (orderly : IsOrderly a) (more from : ℕ) → from + more ≤ length a.ledger.queue.releases
     → ((k : ℕ) → from ≤ k → k < from + more → is_marked a.ledger.queue.releases k ≡ false) → PassPart from (from + more) 0 [] a a x x
@@ -175,11 +171,11 @@ holds_freed true p q = one (eqb p q)
 holds_freed false p q = refl
 
 -- a release that left
-module _ (a b : Core) (x y : PrintsView) (i : ℕ) (r : Release) (freed : Bool) (at : slice_get a.ledger.queue.releases i ≡ Some r) (out : TakesOut i r freed a b) (forgets : Forgets (freed_pages freed r.page) x y) where
+module _ (a b : Core) (i : ℕ) (r : Release) (freed : Bool) (at : slice_get a.ledger.queue.releases i ≡ Some r) (out : TakesOut i r freed a b) where
   releases_out : b.ledger.queue.releases ≡ remove a.ledger.queue.releases i
   releases_out = ap (λ (q : QueueLists). q.releases) out.queue
 
-  frame_out : PassFrame 1 a b
+  pub frame_out : PassFrame 1 a b
   frame_out =
       let held : (q : ℕ) → held_for_all a.ledger.queue.releases q ≡ held_for_all b.ledger.queue.releases q + held_for r q =
       λ q. held_removed a.ledger.queue.releases i r q at ∙ ap (λ (l : List Release). held_for_all l q + held_for r q) (sym releases_out) in
@@ -244,8 +240,8 @@ module _ (a b : Core) (x y : PrintsView) (i : ℕ) (r : Release) (freed : Bool) 
               (subst (λ (l : List Release). SmallPass (lay_of a.shape) step.n (map plain_release (take i l)) (map plain_release (drop i l)) end) releases_out p)),
         ))
 
-  pub part_out : PassPart i i 1 (freed_pages freed r.page) a b x y
-  part_out = record {
+  pub part_out : (x y : PrintsView) → Forgets (freed_pages freed r.page) x y → PassPart i i 1 (freed_pages freed r.page) a b x y
+  part_out x y forgets = record {
     stands = out.stands;
     frame = frame_out;
     order = subst (λ (l : List Release). PartLeaves i i a.ledger.queue.releases l) (sym releases_out) (leaves_removed a.ledger.queue.releases i r at);

@@ -88,4 +88,5 @@ pub record LooksAt (from to was now : ℕ) (old new : Core) (before after : Prin
   pub freed : now ≡ was + length pages
   pub few : length pages ≤ lowered
   pub forth : from ≤ to
+  pub within : to ≤ length new.ledger.queue.releases
   pub falls : length new.ledger.queue.releases + from < length old.ledger.queue.releases + to

@@ -39,6 +39,7 @@ pub use orderly::{
     quiet_is_orderly, releases_are_orderly, releases_wait, tables_stay_formed,
 };
 use page_layout::Shape;
+pub use passing::Passed;
 pub use placing::given_page_is_free;
 pub use provided::{
     applied_is_provided, holds_move, name_owes, owed_pages_are_held, queue_is_provided,
