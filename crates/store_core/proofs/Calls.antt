@@ -1,9 +1,9 @@
 -- Counts of device calls, and what each of them ended as.
-use Rattle.std.proofs.Common.{◌≡◌, ℕ, ◌+◌, ◌<◌, ◌^◌, List, [], ◌∷◌, ◌++◌, Ok, Err, Result, length, min, true, refl, sym, subst, arith, length-append}
+use Rattle.std.proofs.Common.{◌≡◌, ℕ, ◌+◌, ◌<◌, ◌^◌, List, [], ◌∷◌, ◌++◌, Ok, Err, length, min, true, refl, sym, subst, arith, length-append}
 use Rattle.page_device.specs.Block.{Block}
-use Rattle.page_device.specs.Disk.{DeviceState, after, state_after}
+use Rattle.page_device.specs.Disk.{DeviceState, state_after}
 use Rattle.page_device.specs.Faults.{IsCalm}
-use Rattle.page_device.specs.Meaning.{FlushEntry, HasCause, Meaning, OneCall, WriteEntry}
+use Rattle.page_device.specs.Meaning.{FlushEntry, Meaning, OneCall, WriteEntry}
 use Rattle.page_device.specs.Moments.{EachImage, EachMoment}
 use Rattle.page_device.specs.declared.device.LogEntry.{LogEntry}
 use Rattle.page_device.specs.declared.error.Failed.{Failed}

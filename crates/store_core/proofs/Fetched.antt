@@ -29,7 +29,7 @@ use Rattle.store_core.proofs.Quieted.{rest_stands, rest_world}
 use Rattle.store_core.proofs.Stood.{images_fit}
 use Rattle.store_core.proofs.Worlds.{table_dirty}
 
-read_known : (d e : Meaning) → OneRead d e → IsKnown d → IsKnown e
+pub read_known : (d e : Meaning) → OneRead d e → IsKnown d → IsKnown e
 read_known d e r k =
     let s = r.state k.tells_pages in
     record {

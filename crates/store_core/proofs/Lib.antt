@@ -9,6 +9,7 @@ pub mod Flowed
 pub mod Going
 pub mod Quieted
 pub mod Fetched
+pub mod Copied
 pub mod Looked
 pub mod Undamaged
 pub mod Held
@@ -48,3 +49,4 @@ pub mod PartSteps
 pub mod Opens
 pub mod PartOut
 pub mod PartStays
+pub mod NoCalls

@@ -1,10 +1,7 @@
 -- Edges that close no cycle, what a queued release waits for, and entries of pages that are there.
-use Rattle.std.proofs.Common.{arith, ◌≡◌, ◌≢◌, inl, inr, ◌<◌, ◌≤◌, ◌+◌, ◌-◌, ◌/◌, ℕ, Bool, true, false, sym, ap, ◌∙◌, subst, Some}
+use Rattle.std.proofs.Common.{arith, ◌≡◌, ◌≢◌, inl, inr, ◌<◌, ◌≤◌, ◌-◌, ◌/◌, ℕ, true, false, sym, ◌∙◌, Some}
 use Rattle.std.specs.Prelude.{slice_get}
 use Rattle.std.proofs.lemmas.Bool.{true≢false}
-use Rattle.page_device.specs.Block.{Block}
-use Rattle.page_device.specs.Meaning.{Meaning}
-use Rattle.page_layout.specs.Formed.{is_formed}
 use Rattle.page_layout.specs.Shape.{count_page, data_page, map_page, print_page, print_place}
 use Rattle.page_layout.specs.Tables.{IsPrintEntry}
 use Rattle.page_layout.proofs.FormedPages.{formed_print}
@@ -13,7 +10,6 @@ use Rattle.order_model.specs.Paths.{Closes}
 use Rattle.dep_graph.specs.Lists.{dirty_in, live_in}
 use Rattle.ref_counts.specs.Counts.{count_in}
 use Rattle.release_queue.specs.declared.Release.{Release}
-use Rattle.engine_model.specs.AnyDevice.{IsOrdered}
 use Rattle.engine_model.proofs.Graphs.{way_begins, way_ends}
 use Rattle.engine_model.proofs.Ordering.{data_open}
 use Rattle.store_core.specs.declared.Core.{Core}

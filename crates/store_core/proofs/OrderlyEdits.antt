@@ -1,10 +1,9 @@
 -- Marks, edges, queue and tables after an edit of one page.
-use Rattle.std.proofs.Common.{arith, ◌≡◌, ◌≢◌, ◌⊎◌, inl, inr, ◌<◌, ◌≤◌, ◌+◌, ◌-◌, ℕ, Bool, true, false, cond, ◌&&◌, ◌||◌, not, refl, sym, ap, ◌∙◌, subst, List, [], ◌∷◌, ◌++◌, map, Option, Some, None, eqb, eq-eqb, ne_eqb, is_some}
+use Rattle.std.proofs.Common.{arith, ◌≡◌, ◌≢◌, inl, inr, ◌<◌, ◌≤◌, ◌+◌, ℕ, Bool, true, false, cond, refl, sym, ap, ◌∙◌, subst, List, [], ◌∷◌, ◌++◌, map, Option, None, eqb, ne_eqb, is_some}
 use Rattle.std.specs.List.{All}
 use Rattle.std.proofs.lemmas.Bool.{cases_eq, true≢false}
 use Rattle.std.proofs.lemmas.List.Elements.{All-append, All-cons, All-nil}
 use Rattle.page_device.specs.Block.{Block, zero_block}
-use Rattle.page_device.specs.Meaning.{Meaning}
 use Rattle.page_layout.specs.Formed.{is_formed, is_formed_as}
 use Rattle.page_layout.specs.Shape.{ShapeView, count_page, data_page, map_page, print_page, print_place}
 use Rattle.page_layout.specs.Tables.{print_entry_of}
@@ -20,11 +19,10 @@ use Rattle.dep_graph.specs.Lists.{GraphLists, barred_in, dirty_in, entered, hung
 use Rattle.dep_graph.proofs.CountLemmas.{holds_placed}
 use Rattle.ref_counts.specs.Counts.{count_in}
 use Rattle.release_queue.specs.declared.Release.{Release}
-use Rattle.release_queue.specs.Queued.{QueueLists}
 use Rattle.flush_engine.specs.Edits.{GivenUp}
 use Rattle.flush_engine.specs.View.{EngineView}
 use Rattle.engine_model.specs.AnyDevice.{IsOrdered}
-use Rattle.engine_model.specs.SmallSteps.{given_up, put, touched}
+use Rattle.engine_model.specs.SmallSteps.{given_up, touched}
 use Rattle.engine_model.proofs.Graphs.{way_longer}
 use Rattle.engine_model.proofs.Ordering.{data_open, give_up_order, name_order, put_order, touch_order}
 use Rattle.engine_model.proofs.Ways.{way_avoids}

@@ -7,9 +7,9 @@ use Rattle.page_device.specs.Block.{Block, zero_block}
 use Rattle.page_device.specs.Meaning.{Meaning}
 use Rattle.page_device.specs.declared.error.Failed.{Failed}
 use Rattle.page_layout.specs.Shape.{ShapeView, total}
-use Rattle.page_cache.specs.View.{content_in, holds_in, is_there}
+use Rattle.page_cache.specs.View.{content_in, holds_in}
 use Rattle.order_model.specs.declared.Slot.TheVariants.{Print}
-use Rattle.order_model.specs.Paths.{Closes, LivePath}
+use Rattle.order_model.specs.Paths.{LivePath}
 use Rattle.birth_marks.specs.Births.{is_unborn_in}
 use Rattle.dep_graph.specs.Lists.{GraphLists, barred_in, dirty_in, hung_in, live_in}
 use Rattle.dep_graph.specs.Pages.{holds}
@@ -30,11 +30,11 @@ use Rattle.store_core.specs.Layout.{lay_of}
 use Rattle.store_core.specs.Ledger.{ledger_told}
 use Rattle.store_core.specs.Orderly.{HasToWait, IsLookedBut, IsOrderlyBut}
 use Rattle.store_core.specs.Owed.{IsProvided}
-use Rattle.store_core.specs.Views.{held_or, page_in, plain_release, world_of}
+use Rattle.store_core.specs.Views.{held_or, plain_release, world_of}
 use Rattle.store_core.specs.Whole.{IsPlaced, IsWhole}
 use Rattle.store_core.proofs.Clean.{apart_pages}
 use Rattle.store_core.proofs.Flowed.{table_held}
-use Rattle.store_core.proofs.Going.{Goes, call_goes, core_of, done_goes, failed_goes, goes_none, goes_then}
+use Rattle.store_core.proofs.Going.{Goes, core_of, done_goes, failed_goes, goes_none, goes_then}
 use Rattle.store_core.proofs.Looks.{all_both, born_fixed, born_tried, born_written, closes_more, count_same, last_still, print_same, waits_on}
 use Rattle.store_core.proofs.OrderMarks.{ordered_as, ordered_in}
 use Rattle.store_core.proofs.OrderlySteps.{formed_fewer, looked_on}

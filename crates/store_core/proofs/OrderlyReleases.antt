@@ -1,14 +1,14 @@
 -- Marks, edges, queue and tables after a release went, or was looked at.
-use Rattle.std.proofs.Common.{arith, ◌≡◌, ◌≢◌, ◌⊎◌, inl, inr, ◌<◌, ◌≤◌, ◌+◌, ◌-◌, ℕ, zero, suc, Bool, true, false, cond, ◌&&◌, ◌||◌, not, refl, sym, ap, ◌∙◌, subst, List, [], ◌∷◌, ◌++◌, map, take, drop, Option, Some, None, eqb, eq-eqb, eqb-true, ne_eqb, is_some}
+use Rattle.std.proofs.Common.{arith, ◌≡◌, ◌≢◌, inl, inr, ◌<◌, ◌≤◌, ◌-◌, ℕ, zero, suc, Bool, true, false, ◌&&◌, not, refl, sym, ap, ◌∙◌, subst, List, [], ◌∷◌, map, take, drop, Some, eqb, eqb-true, is_some}
 use Rattle.std.specs.Prelude.{slice_get}
 use Rattle.std.specs.List.{All, remove}
-use Rattle.std.proofs.lemmas.Bool.{and_parts, cases_Bool, cases_eq, false_from_ne_true, true≢false}
+use Rattle.std.proofs.lemmas.Bool.{and_parts, cases_eq, false_from_ne_true, true≢false}
 use Rattle.std.proofs.lemmas.List.{map-append}
 use Rattle.std.proofs.lemmas.List.Elements.{All-append, All-cons, All-drop, All-head, All-nil, All-tail, All-take}
-use Rattle.page_device.specs.Block.{Block, zero_block}
+use Rattle.page_device.specs.Block.{zero_block}
 use Rattle.page_device.specs.Meaning.{Meaning}
 use Rattle.page_layout.specs.Formed.{is_formed}
-use Rattle.page_layout.specs.Shape.{ShapeView, count_page, data_page, print_page, print_place}
+use Rattle.page_layout.specs.Shape.{count_page, data_page, print_page, print_place}
 use Rattle.page_layout.specs.Tables.{print_entry_of}
 use Rattle.page_cache.specs.View.{content_in, holds_in, is_there}
 use Rattle.order_model.specs.declared.Slot.TheVariants.{Print}
@@ -38,7 +38,7 @@ use Rattle.store_core.proofs.Edited.{held_there}
 use Rattle.store_core.proofs.Good.{format}
 use Rattle.store_core.proofs.Looks.{all_both, closes_more, count_same, last_still, print_same, waits_on}
 use Rattle.store_core.proofs.Moved.{split_plain}
-use Rattle.store_core.proofs.OrderMarks.{SameOrder, ordered_as, ordered_in}
+use Rattle.store_core.proofs.OrderMarks.{ordered_in}
 use Rattle.store_core.proofs.OrderlyEdits.{edit_on, entry_kept, formed_but}
 use Rattle.store_core.proofs.OrderlySteps.{formed_same}
 

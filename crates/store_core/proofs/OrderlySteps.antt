@@ -1,21 +1,18 @@
 -- Marks, edges, queue and tables after each step that leaves the device.
 use Rattle.std.proofs.Common.{arith, ◌≡◌, ◌≢◌, inl, inr, ◌<◌, ◌≤◌, ◌+◌, ℕ, Bool, true, false, cond, ◌&&◌, ◌||◌, not, refl, sym, ap, ◌∙◌, subst, List, [], ◌∷◌, ◌++◌, map, Option, Some, None, eqb, ne_eqb, is_some}
 use Rattle.std.specs.List.{All}
-use Rattle.std.proofs.lemmas.Bool.{and_parts, cases_Bool, cases_eq, or_left}
-use Rattle.std.proofs.lemmas.List.Elements.{All-append, All-cons, All-map, All-nil}
+use Rattle.std.proofs.lemmas.Bool.{cases_Bool, or_left}
+use Rattle.std.proofs.lemmas.List.Elements.{All-map}
 use Rattle.page_device.specs.Block.{Block, zero_block}
 use Rattle.page_device.specs.Meaning.{Meaning}
-use Rattle.page_layout.specs.Formed.{is_formed, is_formed_as}
-use Rattle.page_layout.specs.Shape.{ShapeView, count_page, data_page, map_page, print_page, print_place}
-use Rattle.page_layout.specs.Tables.{print_entry_of}
-use Rattle.page_layout.proofs.Laws.{data_page_table}
+use Rattle.page_layout.specs.Formed.{is_formed}
+use Rattle.page_layout.specs.Shape.{ShapeView}
 use Rattle.page_cache.specs.View.{CacheView, content_in, holds_in, is_there}
 use Rattle.order_model.specs.Edges.{Edge}
 use Rattle.order_model.specs.declared.Slot.TheVariants.{Print}
-use Rattle.order_model.specs.Paths.{Closes}
 use Rattle.order_model.specs.World as plain
 use Rattle.order_model.specs.World.{IsData}
-use Rattle.birth_marks.specs.Births.{BirthsView, is_unborn_in}
+use Rattle.birth_marks.specs.Births.{is_unborn_in}
 use Rattle.dep_graph.specs.Lists.{GraphLists, barred_in, dirty_in, entered, hung_in, live_in}
 use Rattle.dep_graph.specs.Pages.{holds}
 use Rattle.release_queue.specs.declared.Release.{Release}
@@ -28,7 +25,6 @@ use Rattle.engine_model.specs.SmallSteps.{ordered_after, ordered_by_barrier, tou
 use Rattle.engine_model.proofs.Ordering.{barred_order, order_order, touch_order}
 use Rattle.store_core.specs.declared.Core.{Core}
 use Rattle.store_core.specs.declared.ledger.Ledger.{Ledger}
-use Rattle.store_core.specs.Applied.{is_last_print, is_print_unborn}
 use Rattle.store_core.specs.Edits.{Barred, Makes}
 use Rattle.store_core.specs.Frames.{OnlyEngine, SameHolds}
 use Rattle.store_core.specs.Layout.{lay_of}
@@ -38,9 +34,8 @@ use Rattle.store_core.specs.Quiet.{GivesBack, Quiet, SameRest}
 use Rattle.store_core.specs.Views.{held_or, page_in, plain_release, world_of}
 use Rattle.store_core.specs.Whole.{IsPlaced}
 use Rattle.store_core.proofs.Looks.{all_both, closes_more, count_same, last_still, print_same, unborn_same, waits_on}
-use Rattle.store_core.proofs.OrderMarks.{SameOrder, ordered_as, ordered_in}
+use Rattle.store_core.proofs.OrderMarks.{ordered_as, ordered_in}
 use Rattle.store_core.proofs.Owing.{HasPages, pages_held}
-use Rattle.store_core.proofs.Releases.{moved_by_change}
 
 -- no release is of page 0
 pub orderly_but : (p : ℕ) (core : Core) → IsOrderly core → IsOrderlyBut p core

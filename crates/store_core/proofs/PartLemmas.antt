@@ -1,21 +1,19 @@
 -- Parts of a pass, one after another.
-use Rattle.std.proofs.Common.{arith, ◌≡◌, inl, inr, ◌+◌, ◌*◌, ◌<◌, ◌≤◌, ℕ, suc, Bool, true, false, not, ◌&&◌, ◌||◌, cond, refl, sym, ap, ◌∙◌, subst, List, [], ◌∷◌, ◌++◌, length, map, take, drop, Option, Some, None, eqb, eq-eqb, ne_eqb, eq-zero-or-pos}
+use Rattle.std.proofs.Common.{arith, ◌≡◌, inl, inr, ◌+◌, ◌*◌, ◌≤◌, ℕ, Bool, true, false, not, ◌&&◌, ◌||◌, cond, refl, sym, ap, ◌∙◌, subst, List, [], ◌++◌, map, take, drop, Option, None, eqb, eq-eqb, ne_eqb, eq-zero-or-pos}
 use Rattle.std.proofs.lemmas.List.{length-append}
 use Rattle.std.proofs.lemmas.List.Folds.{list_any-append}
 use Rattle.page_device.specs.Meaning.{Meaning}
 use Rattle.page_layout.specs.Shape.{ShapeView}
 use Rattle.dep_graph.specs.Pages.{holds}
 use Rattle.finger_table.specs.Index.{PrintsView, print_at}
-use Rattle.order_model.specs.World.{IsData, Layout, World}
+use Rattle.order_model.specs.World.{Layout, World}
 use Rattle.engine_model.specs.Entries.{cached_count, cached_print}
 use Rattle.engine_model.specs.Invariant.{Moment}
 use Rattle.engine_model.specs.SmallPass.{SmallPass}
 use Rattle.store_core.specs.declared.Core.{Core}
 use Rattle.store_core.specs.Layout.{lay_of}
-use Rattle.store_core.specs.Moments.{IsMomentOf}
-use Rattle.store_core.specs.Owed.{KeepsHolds, Spends, held_for_all}
 use Rattle.store_core.specs.Passing.{Forgets, Frees, PassFrame, was_freed}
-use Rattle.store_core.specs.PassParts.{PartByLaws, PartFrom, PassPart}
+use Rattle.store_core.specs.PassParts.{PartFrom, PassPart}
 use Rattle.store_core.specs.Views.{plain_release}
 use Rattle.store_core.proofs.Owing.{holds_then}
 use Rattle.store_core.proofs.QueueParts.{leaves_then}

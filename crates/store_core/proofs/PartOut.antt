@@ -1,21 +1,20 @@
 -- A release that leaves the queue: applied or let go, and then what was held for it is given back.
-use Rattle.std.proofs.Common.{arith, ◌≡◌, ◌≢◌, inl, inr, ◌+◌, ◌-◌, ◌*◌, ◌<◌, ◌≤◌, ℕ, zero, suc, Bool, true, false, not, ◌&&◌, cond, refl, sym, ap, ◌∙◌, subst, List, [], ◌∷◌, length, map, take, drop, Option, None, Some, is_some, eqb, eq-eqb, eqb-true, ne_eqb, true≢false, eq-zero-or-pos}
-use Rattle.std.proofs.lemmas.Bool.{cases_Bool, cases_eq, false_from_ne_true}
+use Rattle.std.proofs.Common.{arith, ◌≡◌, ◌≢◌, inl, inr, ◌+◌, ◌-◌, ◌<◌, ◌≤◌, ℕ, suc, Bool, true, false, not, ◌&&◌, cond, refl, sym, ap, ◌∙◌, subst, List, length, drop, Option, None, Some, is_some, eqb, eq-eqb, ne_eqb, true≢false, eq-zero-or-pos}
+use Rattle.std.proofs.lemmas.Bool.{cases_eq, false_from_ne_true}
 use Rattle.std.proofs.Math.Bool.{and-false}
 use Rattle.std.specs.Prelude.{slice_get}
-use Rattle.std.specs.List.{All, remove}
-use Rattle.std.proofs.lemmas.List.Elements.{All-cons, All-head, All-nil, All-tail}
+use Rattle.std.specs.List.{remove}
 use Rattle.std.proofs.lemmas.Option.{slice_get_within}
 use Rattle.page_device.specs.Block.{Block, zero_block}
 use Rattle.page_device.specs.Meaning.{Meaning}
-use Rattle.page_layout.specs.Shape.{ShapeView, count_page, data_page}
-use Rattle.page_cache.specs.View.{CacheView, content_in, holds_in, is_there}
+use Rattle.page_layout.specs.Shape.{count_page, data_page}
+use Rattle.page_cache.specs.View.{content_in, holds_in, is_there}
 use Rattle.dep_graph.specs.Lists.{is_ready}
 use Rattle.order_model.specs.World.{IsData, World}
 use Rattle.ref_counts.specs.Counts.{count_in}
-use Rattle.release_queue.specs.Queued.{QueueLists, is_marked, unmarked}
+use Rattle.release_queue.specs.Queued.{QueueLists, is_marked}
 use Rattle.release_queue.specs.declared.Release.{Release}
-use Rattle.release_queue.proofs.LookLemmas.{marked_cut, marked_still}
+use Rattle.release_queue.proofs.LookLemmas.{marked_cut}
 use Rattle.flush_engine.specs.View.{EngineView}
 use Rattle.engine_model.specs.Entries.{cached_count}
 use Rattle.engine_model.specs.Invariant.{Moment}
@@ -26,11 +25,11 @@ use Rattle.store_core.specs.Frames.{KeepsStands}
 use Rattle.store_core.specs.Layout.{lay_of}
 use Rattle.store_core.specs.Moments.{AppliesByLaws, IsMomentOf, LeavesByLaws, queued_after, queued_before}
 use Rattle.store_core.specs.Orderly.{HasToWait, IsOrderly}
-use Rattle.store_core.specs.Owed.{IsProvided, KeepsHolds, Spends, held_for, held_for_all}
-use Rattle.store_core.specs.Passing.{PassFrame, was_freed}
-use Rattle.store_core.specs.PassParts.{IsPassing, LeavesFrom, LeavesQueue, TakesOut}
+use Rattle.store_core.specs.Owed.{IsProvided, held_for}
+use Rattle.store_core.specs.Passing.{PassFrame}
+use Rattle.store_core.specs.PassParts.{IsPassing, LeavesQueue, TakesOut}
 use Rattle.store_core.specs.Quiet.{GivesBack, once}
-use Rattle.store_core.specs.Views.{held_or, page_in, plain_release, world_of}
+use Rattle.store_core.specs.Views.{held_or, page_in, plain_release}
 use Rattle.store_core.specs.Whole.{IsPlaced}
 use Rattle.store_core.proofs.Clean.{apart_pages}
 use Rattle.store_core.proofs.Edited.{held_there}

@@ -1,12 +1,11 @@
 -- A release that has to wait was looked at, and stays; and what a whole pass leaves.
-use Rattle.std.proofs.Common.{arith, ◌≡◌, inl, inr, ◌+◌, ◌-◌, ◌<◌, ◌≤◌, ℕ, zero, suc, Bool, true, false, refl, sym, ap, ◌∙◌, subst, List, [], ◌∷◌, ◌++◌, length, take, drop, map, Option, None, Some, true≢false}
+use Rattle.std.proofs.Common.{arith, ◌≡◌, inl, inr, ◌+◌, ◌-◌, ◌<◌, ◌≤◌, ℕ, zero, suc, Bool, true, false, refl, sym, ap, ◌∙◌, subst, List, [], ◌∷◌, ◌++◌, length, take, drop, map, None, Some, true≢false}
 use Rattle.std.proofs.lemmas.Bool.{cases_eq, cases_lt, false_from_ne_true}
 use Rattle.std.proofs.lemmas.List.{length-append}
 use Rattle.std.proofs.lemmas.List.Elements.{All-cons, All-head, All-nil, All-tail}
 use Rattle.std.proofs.lemmas.Option.{slice_get-get_or, slice_get_within}
 use Rattle.std.specs.Prelude.{get_or, slice_get}
 use Rattle.std.specs.List.{All}
-use Rattle.page_device.specs.Meaning.{Meaning}
 use Rattle.page_layout.specs.Shape.{ShapeView}
 use Rattle.order_model.specs.World as plain
 use Rattle.order_model.specs.World.{World}
@@ -15,15 +14,12 @@ use Rattle.finger_table.specs.Index.{PrintsView}
 use Rattle.release_queue.specs.Queued.{is_marked, unmarked}
 use Rattle.release_queue.specs.declared.Release.{Release}
 use Rattle.release_queue.proofs.LookLemmas.{marked_still, marked_within, unmarked_length}
-use Rattle.engine_model.specs.Invariant.{Moment}
 use Rattle.engine_model.specs.SmallPass.{SmallPass}
 use Rattle.store_core.specs.declared.Core.{Core}
 use Rattle.store_core.specs.declared.ledger.Ledger.{Ledger}
 use Rattle.store_core.specs.Frames.{KeepsStands}
 use Rattle.store_core.specs.Layout.{lay_of}
-use Rattle.store_core.specs.Moments.{IsMomentOf}
-use Rattle.store_core.specs.Orderly.{HasToWait, IsLooked, IsOrderly}
-use Rattle.store_core.specs.Owed.{IsProvided}
+use Rattle.store_core.specs.Orderly.{HasToWait, IsLooked}
 use Rattle.store_core.specs.Passing.{AllWait, Forgets, LeftOf, PassFrame, PassFrees}
 use Rattle.store_core.specs.PassParts.{IsPassing, LooksAt, PassPart, TakesOut, freed_pages}
 use Rattle.store_core.specs.Views.{plain_release, world_of}

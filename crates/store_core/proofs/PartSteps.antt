@@ -1,14 +1,12 @@
 -- What a look at one release does, as a part of a pass: it stays, it is passed over, or it left.
-use Rattle.std.proofs.Common.{arith, ◌≡◌, ◌⊎◌, inl, inr, ◌+◌, ◌-◌, ◌*◌, ◌<◌, ◌≤◌, ℕ, zero, suc, Bool, true, false, not, ◌&&◌, ◌||◌, cond, refl, sym, ap, ◌∙◌, subst, List, [], ◌∷◌, ◌++◌, length, map, take, drop, None, Some, eqb, eq-eqb, ne_eqb}
+use Rattle.std.proofs.Common.{arith, ◌≡◌, inl, inr, ◌+◌, ◌<◌, ◌≤◌, ℕ, zero, suc, Bool, true, false, not, ◌&&◌, ◌||◌, cond, refl, sym, ap, ◌∙◌, subst, List, [], ◌∷◌, ◌++◌, length, map, take, drop, None, Some, eqb, eq-eqb, ne_eqb}
 use Rattle.std.proofs.lemmas.Bool.{cases_eq}
 use Rattle.std.proofs.lemmas.List.{map-append}
 use Rattle.std.proofs.lemmas.Option.{slice_get-get_or}
 use Rattle.std.specs.Prelude.{get_or, slice_get}
 use Rattle.std.specs.List.{remove}
 use Rattle.page_device.specs.Meaning.{Meaning}
-use Rattle.page_layout.specs.Shape.{ShapeView}
-use Rattle.page_cache.specs.View.{CacheView, content_in, holds_in}
-use Rattle.dep_graph.specs.Lists.{GraphLists}
+use Rattle.page_cache.specs.View.{content_in, holds_in}
 use Rattle.dep_graph.specs.Pages.{holds}
 use Rattle.finger_table.specs.Index.{PrintsView}
 use Rattle.order_model.specs.World as plain
@@ -19,10 +17,10 @@ use Rattle.release_queue.specs.Queued.{QueueLists, is_marked, unmarked}
 use Rattle.release_queue.specs.declared.Release.{Release}
 use Rattle.release_queue.proofs.LookLemmas.{unmarked_length}
 use Rattle.flush_engine.specs.View.{EngineView}
-use Rattle.engine_model.specs.Entries.{Apart, cached_count, cached_print}
+use Rattle.engine_model.specs.Entries.{cached_count, cached_print}
 use Rattle.engine_model.specs.Invariant.{Moment, known_at}
 use Rattle.engine_model.specs.Releases.{IsBlocked}
-use Rattle.engine_model.specs.SmallPass.{Applies, Leaves, SmallPass}
+use Rattle.engine_model.specs.SmallPass.{SmallPass}
 use Rattle.engine_model.specs.Tight.{live_pages}
 use Rattle.store_core.specs.declared.Core.{Core}
 use Rattle.store_core.specs.declared.ledger.Ledger.{Ledger}
@@ -33,7 +31,7 @@ use Rattle.store_core.specs.Moments.{IsMomentOf, queued_after, queued_before}
 use Rattle.store_core.specs.Orderly.{HasToWait, IsLooked, IsOrderly}
 use Rattle.store_core.specs.Owed.{IsProvided, held_for, held_for_all}
 use Rattle.store_core.specs.Passing.{Forgets, Frees, PassFrame, looked, was_freed}
-use Rattle.store_core.specs.PassParts.{IsPassing, LeavesFrom, PartFrom, PartLeaves, PassPart, TakesOut, freed_pages}
+use Rattle.store_core.specs.PassParts.{LeavesFrom, PartLeaves, PassPart, TakesOut, freed_pages}
 use Rattle.store_core.specs.Views.{plain_release, world_in, world_of}
 use Rattle.store_core.specs.Whole.{IsPlaced}
 use Rattle.store_core.proofs.Alike.{to_engine}
@@ -46,7 +44,7 @@ use Rattle.store_core.proofs.PartLemmas.{forgets_none, frees_none, part_then}
 use Rattle.store_core.proofs.Queued.{placed_at}
 use Rattle.store_core.proofs.QueueParts.{drop_at, drop_looked, drop_removed, held_looked, leaves_looked, leaves_removed, marked_is, take_looked, take_removed, unmarked_same}
 use Rattle.store_core.proofs.Spending.{spends_none}
-use Rattle.store_core.proofs.TakenOut.{taken_count, taken_live, taken_lower, taken_other, taken_print}
+use Rattle.store_core.proofs.TakenOut.{taken_live, taken_lower, taken_other, taken_print}
 
 -- the same parts, but for marks
 abbrev pub SameButLooks : ℕ → Core → Core → Type 0

@@ -1,5 +1,5 @@
 -- The queue around one place: a release that was looked at, and one that left.
-use Rattle.std.proofs.Common.{arith, ◌≡◌, inl, inr, ◌+◌, ◌<◌, ◌≤◌, ℕ, zero, suc, Bool, true, false, refl, sym, ap, ◌∙◌, subst, List, [], ◌∷◌, ◌++◌, length, map, take, drop, Some, None}
+use Rattle.std.proofs.Common.{arith, ◌≡◌, inl, inr, ◌+◌, ◌≤◌, ℕ, zero, suc, Bool, false, refl, sym, ap, ◌∙◌, subst, List, [], ◌∷◌, ◌++◌, take, drop, Some}
 use Rattle.std.specs.Prelude.{slice_get}
 use Rattle.std.specs.List.{All, remove}
 use Rattle.std.proofs.lemmas.List.{append_assoc, take-append-drop}
@@ -9,8 +9,6 @@ use Rattle.release_queue.specs.Queued.{is_marked, unmarked}
 use Rattle.store_core.specs.Owed.{held_for, held_for_all}
 use Rattle.store_core.specs.PassParts.{PartLeaves}
 use Rattle.store_core.specs.Passing.{LeftOf, looked}
-use Rattle.store_core.specs.Views.{plain_release}
-use Rattle.order_model.specs.World as plain
 
 pub drop_at : (rs : List Release) (i : ℕ) (r : Release) → slice_get rs i ≡ Some r → drop i rs ≡ r ∷ drop (suc i) rs
 drop_at [] i r e = cc

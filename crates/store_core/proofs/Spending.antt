@@ -1,5 +1,5 @@
 -- What each step takes of nodes, edges and changes.
-use Rattle.std.proofs.Common.{arith, ◌≡◌, ◌≤◌, ◌+◌, ◌-◌, ℕ, Bool, true, false, cond, refl, sym, ap, ◌∙◌, subst, List, map, Option}
+use Rattle.std.proofs.Common.{arith, ◌≡◌, ◌≤◌, ◌+◌, ◌-◌, ℕ, Bool, true, false, cond, refl, sym, ap, subst, List, Option}
 use Rattle.page_device.specs.Meaning.{Meaning}
 use Rattle.dep_graph.specs.Lists.{GraphLists, entered, is_node, node_count}
 use Rattle.flush_engine.specs.Edits.{Ordered}

@@ -1,14 +1,13 @@
 -- A release that left the queue, as a step of the plain state: which pages are clean, counted and printed then.
-use Rattle.std.proofs.Common.{◌≡◌, ◌≢◌, ◌⊎◌, inl, inr, ◌+◌, ◌-◌, ◌<◌, ◌≤◌, ℕ, Bool, true, false, not, ◌&&◌, ◌||◌, cond, arith, refl, sym, ap, ◌∙◌, subst, List, ◌++◌, Option, None, true≢false, eqb, eq-eqb, eqb-true, ne_eqb, eq-zero-or-pos}
-use Rattle.std.proofs.lemmas.Bool.{and_from, and_parts, cases_Bool, cases_eq, false_from_ne_true, not_from_false, or_left, or_right}
+use Rattle.std.proofs.Common.{◌≡◌, ◌≢◌, ◌⊎◌, inl, inr, ◌+◌, ◌-◌, ◌<◌, ◌≤◌, ℕ, Bool, true, false, not, ◌&&◌, ◌||◌, cond, arith, refl, sym, ap, ◌∙◌, subst, List, ◌++◌, None, true≢false, eqb, eq-eqb, eqb-true, ne_eqb, eq-zero-or-pos}
+use Rattle.std.proofs.lemmas.Bool.{and_from, and_parts, cases_Bool, cases_eq, not_from_false, or_left}
 use Rattle.std.proofs.Math.Bool.{and-false, and-true}
-use Rattle.order_model.specs.Counting.{count_below}
 use Rattle.order_model.specs.World.{IsData, Layout, Release, World}
 use Rattle.engine_model.specs.Entries.{Apart, cached_count, cached_print}
 use Rattle.engine_model.specs.Invariant.{Moment}
-use Rattle.engine_model.specs.SmallPass.{Applies, Clears, ClearsLast, ClearsUnborn, GivenUp, GivesUp, Leaves, NothingToClear, StaysThere, print_readied, readied}
+use Rattle.engine_model.specs.SmallPass.{Applies, Clears, ClearsLast, ClearsUnborn, GivenUp, Leaves, NothingToClear, StaysThere, print_readied, readied}
 use Rattle.engine_model.specs.SmallRuns.{in_state, with_release_out}
-use Rattle.engine_model.specs.SmallSteps.{given_up, ordered, ordered_by_barrier, put, touched}
+use Rattle.engine_model.specs.SmallSteps.{given_up, put, touched}
 use Rattle.engine_model.specs.Tight.{live_pages}
 use Rattle.store_core.specs.Passing.{was_freed}
 use Rattle.engine_model.proofs.AppliedFrames.{applies_count, applies_print, clears_none, edge_by, gives_up_cached, ready_cached}

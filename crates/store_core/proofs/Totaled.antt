@@ -1,7 +1,7 @@
 -- Totals after one count or one name changed, and where nothing is wasted.
-use Rattle.std.proofs.Common.{arith, ◌≡◌, ◌≢◌, inl, inr, ◌<◌, ◌≤◌, ◌+◌, ◌-◌, ◌*◌, ℕ, zero, suc, Bool, true, false, cond, not, min, if◌then◌else◌, refl, sym, ap, ◌∙◌, subst, List, [], ◌∷◌, map, length, eqb, eqb-true, eq-eqb, ne_eqb}
+use Rattle.std.proofs.Common.{arith, ◌≡◌, ◌≢◌, inl, inr, ◌<◌, ◌≤◌, ◌+◌, ◌-◌, ◌*◌, ℕ, zero, suc, Bool, true, false, cond, not, min, if◌then◌else◌, refl, sym, ap, ◌∙◌, subst, List, [], ◌∷◌, length, eqb, eqb-true, eq-eqb, ne_eqb}
 use Rattle.std.proofs.lemmas.List.{length-map}
-use Rattle.std.proofs.lemmas.Bool.{cases_Bool, cases_eq}
+use Rattle.std.proofs.lemmas.Bool.{cases_eq}
 use Rattle.page_device.specs.Block.{Block}
 use Rattle.page_device.specs.Meaning.{Meaning}
 use Rattle.page_layout.specs.Shape.{ShapeView, count_page, map_page}
@@ -18,14 +18,13 @@ use Rattle.engine_model.specs.Tight.{IsTight, live_pages}
 use Rattle.store_core.specs.declared.Core.{Core}
 use Rattle.store_core.specs.declared.totals.Totals.{Totals}
 use Rattle.store_core.specs.Edits.{LowersCount, NamesBlock, RaisesCount}
-use Rattle.store_core.specs.Layout.{lay_of, top}
+use Rattle.store_core.specs.Layout.{lay_of}
 use Rattle.store_core.specs.Stands.{StandsFor}
 use Rattle.store_core.specs.Totals.{AreFew, AreTotals, Recounts, Renames, waste_of, with_lowered, with_raised, with_renamed}
 use Rattle.store_core.specs.Views.{page_in, plain_release, world_of}
 use Rattle.store_core.specs.Whole.{IsPlaced}
 use Rattle.store_core.proofs.Clean.{apart_pages}
 use Rattle.store_core.proofs.Edited.{cached_there}
-use Rattle.store_core.proofs.Good.{format}
 
 -- one count changed
 module _ (lay : Layout) (v w : World) (p : ℕ) (is : IsData lay p) (r : Recounts lay p v w) where

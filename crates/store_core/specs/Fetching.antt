@@ -1,7 +1,7 @@
 -- What a fetch of a page does to a cache and to the device.
 use Rattle.std.specs.Prelude.{◌≡◌, ◌⊎◌, ℕ, Bool, true, false, not, slice_get, Result, Ok, IsOk, IfOk, OnOk, OnErr}
 use Rattle.page_device.specs.Disk.{newest}
-use Rattle.page_device.specs.Meaning.{Meaning}
+use Rattle.page_device.specs.Meaning.{Meaning, OneRead}
 use Rattle.page_cache.specs.declared.cache.FetchError.{FetchError}
 use Rattle.page_cache.specs.View.{CacheView, content_in, is_there}
 use Rattle.page_cache.specs.Calls.{Brought, FetchCall, Same, Used}
@@ -21,3 +21,8 @@ pub record Fetches (page : ℕ) (result : Result Bool FetchError) (d e : Meaning
 pub record OnlyBrings (page : ℕ) (old new : Core) : Type 0 where
   pub each : (q : ℕ) → is_there new.engine.cache q ≡ true
       → (content_in new.engine.cache q ≡ content_in old.engine.cache q) ⊎ ((q ≡ page) × (is_there old.engine.cache page ≡ false))
+
+-- a page that is there was used, and of any other the cache keeps nothing
+pub record Copies (page : ℕ) (d e : Meaning) (old new : CacheView) : Type 0 where
+  pub there : is_there old page ≡ true → Used old new page × (e ≡ d)
+  pub absent : is_there old page ≡ false → Same old new × OneRead d e

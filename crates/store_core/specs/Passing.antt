@@ -4,11 +4,12 @@ use Rattle.std.specs.List.{All}
 use Rattle.page_device.specs.Meaning.{Meaning}
 use Rattle.page_cache.specs.View.{content_in, holds_in}
 use Rattle.order_model.specs.World.{IsData, Layout, World}
+use Rattle.dep_graph.specs.Lists.{live_in}
 use Rattle.dep_graph.specs.Pages.{holds}
 use Rattle.finger_table.specs.Index.{PrintsView, is_ready, print_at}
 use Rattle.release_queue.specs.Queued.{is_marked}
 use Rattle.release_queue.specs.declared.Release.{Release}
-use Rattle.engine_model.specs.Entries.{cached_count, cached_print}
+use Rattle.engine_model.specs.Entries.{IsCount, cached_count, cached_print}
 use Rattle.engine_model.specs.Invariant.{Moment}
 use Rattle.engine_model.specs.SmallPass.{SmallPass}
 use Rattle.engine_model.specs.Tight.{live_pages}
@@ -17,6 +18,7 @@ use Rattle.store_core.specs.Layout.{lay_of}
 use Rattle.store_core.specs.Moments.{IsMomentOf}
 use Rattle.store_core.specs.Orderly.{HasToWait}
 use Rattle.store_core.specs.Owed.{KeepsHolds, Spends, held_for_all}
+use Rattle.store_core.specs.Stands.{CountsCalls}
 
 -- a release that was looked at, and stays
 abbrev pub looked : Release → Release
@@ -37,6 +39,11 @@ pub record PassFrame (lowered : ℕ) (old new : Core) : Type 0 where
   pub fewer : (q : ℕ) → held_for_all new.ledger.queue.releases q ≤ held_for_all old.ledger.queue.releases q
   pub held : (q : ℕ) → 0 < holds_in new.engine.cache q → held_for_all old.ledger.queue.releases q ≡ 0 → content_in new.engine.cache q ≡ content_in old.engine.cache q
   pub spends : Spends (2 * lowered) (2 * lowered) lowered old new
+
+-- No call of the device was made, and each Live edge that came leads to a count page.
+pub record PassAdds (old new : Core) : Type 0 where
+  pub calls : CountsCalls 0 old.engine.cache.calls new.engine.cache.calls
+  pub into : (a b : ℕ) → live_in new.engine.graph a b ≡ true → (live_in old.engine.graph a b ≡ true) ⊎ IsCount (lay_of old.shape) b
 
 -- the prints of these pages are gone from the index, the others stay, and there is as much room
 pub record Forgets (pages : List ℕ) (before after : PrintsView) : Type 0 where

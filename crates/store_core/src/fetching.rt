@@ -2,12 +2,16 @@
 ghost use Rattle.std.specs.Prelude.{◌≡◌, ◌<◌, true, OnOk, OnErr};
 ghost use Rattle.page_cache.specs.View.{holds_in, is_there};
 ghost use Rattle.page_cache.specs.Calls.{HasFetchCause, Held, Same, Unheld};
-ghost use Rattle.store_core.specs.Fetching.{Fetches};
+ghost use Rattle.page_device.specs.Meaning.{HasCause};
+ghost use Rattle.engine_model.specs.Disk.{newest_on};
+ghost use Rattle.page_cache.specs.View.{content_in};
+ghost use Rattle.store_core.specs.Fetching.{Copies, Fetches};
+ghost use Rattle.store_core.specs.Views.{IsKnown, held_or};
 
 use crate::Core;
 use flush_engine::Engine;
 use page_cache::FetchError;
-use page_device::{Device, NoMemory};
+use page_device::{Device, Failed, NoMemory, Page};
 
 // Brings in a page of the device.
 fn fetch_page<D: Device>(engine: &mut Engine, device: &mut D, page: u32) -> Result<bool, FetchError>
@@ -17,6 +21,22 @@ fn fetch_page<D: Device>(engine: &mut Engine, device: &mut D, page: u32) -> Resu
     ensures rest { engine.new ≡ record engine.old { cache = engine.new.cache } }
 {
     engine.cache().fetch(device, page)
+}
+
+// Copies a page that is there, or reads it.
+fn read_page<D: Device>(
+    engine: &mut Engine,
+    device: &mut D,
+    page: u32,
+    into: &mut Page,
+) -> Result<(), Failed>
+    requires within { page < (D.seen device.old).pages }
+    ensures cause { HasCause result (D.seen device.old) (D.seen device.new) }
+    ensures copies { Copies page (D.seen device.old) (D.seen device.new) engine.old.cache engine.new.cache }
+    ensures content { OnOk result (IsKnown (D.seen device.old) → held_or (content_in engine.old.cache page) (newest_on (D.seen device.old).state page) ≡ into.new) }
+    ensures rest { engine.new ≡ record engine.old { cache = engine.new.cache } }
+{
+    engine.cache().read_into(device, page, into)
 }
 
 // A page that is there is held once more.
@@ -39,16 +59,19 @@ fn unhold_page(engine: &mut Engine, page: u32)
 }
 
 impl Core {
-    ghost use Rattle.std.specs.Prelude.{◌≡◌, ◌<◌, ◌≤◌, ℕ, Ok, None, true, not, slice_get, IfOk, OnOk, OnErr};
+    ghost use Rattle.std.specs.Prelude.{◌≡◌, ◌<◌, ◌≤◌, ℕ, List, Bool, Ok, None, true, not, slice_get, IfOk, OnOk, OnErr};
+    ghost use Rattle.page_device.specs.Block.{Block};
     ghost use Rattle.page_device.specs.Disk.{newest};
-    ghost use Rattle.page_device.specs.Meaning.{Meaning};
+    ghost use Rattle.page_device.specs.Meaning.{HasCause, Meaning};
     ghost use Rattle.page_layout.specs.Entries.{table_at};
-    ghost use Rattle.page_layout.specs.Shape.{total};
+    ghost use Rattle.page_layout.specs.Shape.{data_page, total};
     ghost use Rattle.page_cache.specs.View.{content_in, holds_in, is_there};
     ghost use Rattle.page_cache.specs.Calls.{FetchCall, HasFetchCause};
     ghost use Rattle.store_core.specs.Fetching.{Fetches, OnlyBrings};
     ghost use Rattle.store_core.specs.Orderly.{KeepsFormed};
     ghost use Rattle.store_core.specs.Quiet.{GivesBack, Quiet, none, once};
+    ghost use Rattle.store_core.specs.Stands.{StandsFor};
+    ghost use Rattle.store_core.specs.Views.{world_of};
 
     /// Brings in a page, so that it is there after `Ok`: `true` where it was read, `false` where it was there. What the core stands
     /// for stays, and so does each page that is held. A page that nobody holds may go for it.
@@ -115,5 +138,27 @@ impl Core {
         ensures { GivesBack (once page) self.old self.new }
     {
         unhold_page(&mut self.engine, page);
+    }
+
+    /// Copies a data page: from memory where it is there, else straight from the device, and the core keeps nothing of it. What the
+    /// core stands for stays, and so does each page that is held. It is the content that the core has of the page.
+    ///
+    /// `Failed` is a counted fault of the device, and nothing is known of `into` then. It costs a read at most, beside copying one page.
+    pub fn read_data<D: Device>(
+        &mut self,
+        device: &mut D,
+        p: u32,
+        into: &mut Page,
+    ) -> Result<(), Failed>
+        requires first { 1 ≤ p }
+        requires last { p ≤ self.old.shape.pages }
+        requires room { total self.old.shape ≤ (D.seen device.old).pages }
+        ensures cause { HasCause result (D.seen device.old) (D.seen device.new) }
+        ensures bytes { OnOk result ((sound : Bool) (array : ℕ → List Block) → StandsFor sound (D.seen device.old) self.old array → into.new ≡ (world_of (D.seen device.old) self.old).cached (data_page self.old.shape p)) }
+        ensures formed { KeepsFormed self.old self.new }
+        ensures quiet { Quiet none (D.seen device.old) (D.seen device.new) self.old self.new }
+    {
+        let at = self.shape.data_place(p);
+        read_page(&mut self.engine, device, at, into)
     }
 }

@@ -4,7 +4,7 @@ use page_layout::Shape;
 use release_queue::Release;
 
 impl Core {
-    ghost use Rattle.std.specs.Prelude.{◌≡◌, ◌<◌, length, Some, slice_get};
+    ghost use Rattle.std.specs.Prelude.{◌≡◌, ◌<◌, eqb, length, Some, slice_get};
     ghost use Rattle.dep_graph.specs.Lists.{dirty_in, node_count};
 
     /// The shape of the image. Constant.
@@ -48,5 +48,19 @@ impl Core {
         ensures { result ≡ node_count self.now.engine.graph }
     {
         self.engine.graph_seen().nodes()
+    }
+
+    /// Whether there is no place in the queue for one more release. Constant.
+    pub fn is_full(&self) -> bool
+        ensures { result ≡ eqb (length self.now.ledger.queue.releases) self.now.ledger.queue.limit }
+    {
+        self.ledger.queue.full()
+    }
+
+    /// Device writes and barriers so far, failed ones too. It stands still at its end.
+    pub fn calls(&self) -> u64
+        ensures { result ≡ self.now.engine.cache.calls }
+    {
+        self.engine.cache_seen().calls()
     }
 }

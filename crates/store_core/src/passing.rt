@@ -52,7 +52,7 @@ impl Core {
     ghost use Rattle.store_core.specs.Frames.{KeepsStands};
     ghost use Rattle.store_core.specs.Orderly.{HasToWait, IsOrderly};
     ghost use Rattle.store_core.specs.Owed.{IsProvided};
-    ghost use Rattle.store_core.specs.Passing.{AllWait, LeftOf, PassFrame, PassFrees};
+    ghost use Rattle.store_core.specs.Passing.{AllWait, LeftOf, PassAdds, PassFrame, PassFrees};
     ghost use Rattle.store_core.specs.PassParts.{IsPassing, LeavesQueue, LooksAt, PassPart, TakesOut};
     ghost use Rattle.store_core.specs.Whole.{IsPlaced};
 
@@ -89,6 +89,7 @@ impl Core {
         requires queued { i < length self.old.ledger.queue.releases }
         requires waits { (r : Release) → slice_get self.old.ledger.queue.releases i ≡ Some r → HasToWait self.old r }
         ensures part { (x : PrintsView) → PassPart i (suc i) 0 [] self.old self.new x x }
+        ensures adds { PassAdds self.old self.new }
         ensures passing { IsPassing (suc i) self.new }
         ensures length { length self.new.ledger.queue.releases ≡ length self.old.ledger.queue.releases }
     {
@@ -102,6 +103,7 @@ impl Core {
         requires queued { slice_get self.old.ledger.queue.releases i ≡ Some release }
         requires open { HasToWait self.old release → ⊥ }
         ensures leaves { LeavesQueue i release result self.old self.new }
+        ensures adds { PassAdds self.old self.new }
     {
         let count = self.count_of(release.page);
         if count == 0 {
@@ -118,6 +120,7 @@ impl Core {
         requires queued { slice_get self.old.ledger.queue.releases i ≡ Some release }
         requires open { HasToWait self.old release → ⊥ }
         ensures out { TakesOut i release result self.old self.new }
+        ensures adds { PassAdds self.old self.new }
         ensures passing { IsPassing i self.new }
     {
         let freed = self.lower_or_let_go(i, release);
@@ -133,6 +136,7 @@ impl Core {
         requires few { length self.old.ledger.queue.releases < 2 ^ 32 }
         requires room { freed.old + 1 < 2 ^ 32 }
         ensures looks { LooksAt i result freed.old freed.new self.old self.new prints.old prints.new }
+        ensures adds { PassAdds self.old self.new }
         ensures passing { IsPassing result self.new }
     {
         let release = *self.ledger.queue.at(i);
@@ -161,6 +165,7 @@ impl Core {
         ensures order { LeftOf self.old.ledger.queue.releases self.new.ledger.queue.releases }
         ensures wait { AllWait self.new }
         ensures frame { PassFrame result.lowered self.old self.new }
+        ensures adds { PassAdds self.old self.new }
         ensures frees { PassFrees result.freed self.old self.new prints.old prints.new }
         ensures provided { IsProvided self.new }
         ensures orderly { IsOrderly self.new }

@@ -156,6 +156,7 @@ impl Core {
         requires placed { IsPlaced self.old.shape release }
         requires held { 0 < holds_in self.old.engine.cache release.count_at }
         ensures lost { LosesContent release self.old self.new }
+        ensures calls { self.new.engine.cache.calls ≡ self.old.engine.cache.calls }
         ensures laws { GivesUpByLaws release.page self.old self.new }
         ensures stands { KeepsStands self.old self.new }
         ensures in_order { KeepsOrderBut release.page self.old self.new }
@@ -177,6 +178,7 @@ impl Core {
     pub fn apply(&mut self, i: u32, release: Release)
         requires { CanApply i release self.old }
         ensures applied { AppliesRelease i release self.old self.new }
+        ensures calls { self.new.engine.cache.calls ≡ self.old.engine.cache.calls }
         ensures laws { AppliesByLaws i release self.old self.new }
         ensures stands { KeepsStands self.old self.new }
         ensures orderly { IsOrderly self.old → IsOrderly self.new }

@@ -1,15 +1,21 @@
 // What is dirty goes to the device, in waves.
 use crate::Core;
+use merge_policy::MergePolicy;
 use page_device::{Device, Failed};
 
 impl Core {
-    ghost use Rattle.std.specs.Prelude.{◌≤◌, Some};
+    ghost use Rattle.std.specs.Prelude.{◌≡◌, ◌≤◌, ℕ, Some, map};
     ghost use Rattle.page_device.specs.Meaning.{HasCause};
     ghost use Rattle.page_layout.specs.Shape.{total};
     ghost use Rattle.flush_engine.specs.Flush.{FlushEnds};
+    ghost use Rattle.flush_engine.specs.Idle.{TurnEnds};
+    ghost use Rattle.flush_engine.specs.Tallies.{older};
     ghost use Rattle.flush_engine.specs.Waves.{WavesEnd};
     ghost use Rattle.store_core.specs.Ledger.{ledger_told};
-    ghost use Rattle.store_core.specs.Orderly.{FewerEdges, KeepsOrderly};
+    ghost use Rattle.store_core.specs.Edits.{Makes};
+    ghost use Rattle.store_core.specs.Frames.{KeepsStands};
+    ghost use Rattle.store_core.specs.Orderly.{FewerEdges, IsOrderlyBut, KeepsOrderly};
+    ghost use Rattle.store_core.specs.Owed.{IsProvided};
     ghost use Rattle.store_core.specs.Quiet.{Flows};
     ghost use Rattle.store_core.specs.Views.{lent};
 
@@ -44,5 +50,34 @@ impl Core {
         ensures cause { HasCause result (D.seen device.old) (D.seen device.new) }
     {
         self.engine.flush_all(device, &mut self.ledger)
+    }
+
+    /// One round of an idle step: what the policy picks is written, and a barrier made where it asks for one. `true` exactly where a
+    /// barrier was made. The core stands for the same arrays, as in [`settle`](Core::settle), and so does it after `Failed`.
+    ///
+    /// It costs what the engine's `idle_turn` does, and what the ledger is told.
+    pub fn idle_turn<D: Device>(&mut self, device: &mut D, policy: &mut dyn MergePolicy) -> Result<bool, Failed>
+        requires room { total self.old.shape ≤ (D.seen device.old).pages }
+        ensures turn { TurnEnds ledger_told result ((MergePolicy-dyn policy.old).seen policy.old.1) (lent (D.seen device.old) self.old) ((MergePolicy-dyn policy.new).seen policy.new.1) (lent (D.seen device.new) self.new) }
+        ensures flows { Flows (D.seen device.old) (D.seen device.new) self.old self.new }
+        ensures orderly { KeepsOrderly self.old self.new }
+        ensures fewer { FewerEdges self.old self.new }
+        ensures cause { HasCause result (D.seen device.old) (D.seen device.new) }
+    {
+        self.engine.idle_turn(device, policy, &mut self.ledger)
+    }
+
+    /// A turn ended: the age of each dirty page rises by one, and stands still at the end of its type. What the core stands for stays.
+    /// It costs the dirty pages.
+    pub fn turn_done(&mut self)
+        ensures older { self.new.engine ≡ record self.old.engine { tallies = map older self.old.engine.tallies } }
+        ensures shape { self.new.shape ≡ self.old.shape }
+        ensures ledger { self.new.ledger ≡ self.old.ledger }
+        ensures world { Makes (λ w. w) self.old self.new }
+        ensures stands { KeepsStands self.old self.new }
+        ensures orderly { (p : ℕ) → IsOrderlyBut p self.old → IsOrderlyBut p self.new }
+        ensures provided { IsProvided self.old → IsProvided self.new }
+    {
+        self.engine.turn_done();
     }
 }

@@ -1,4 +1,4 @@
-use Rattle.std.proofs.Common.{arith, sym, subst}
+use Rattle.std.proofs.Common.{arith, ◌∙◌, sym, subst}
 use Rattle.page_layout.specs.Shape.{ShapeView}
 use Rattle.store_core.specs.Whole.{IsPlaced}
 use Rattle.store_core.proofs.AppliedLaws.{laws_compose}
@@ -31,3 +31,6 @@ returns-clause-orderly c o =
     let r = c.args.release in
     applied_orderly c.args.i r core c.lose_content.new.self c.requires (placed_at core.shape core.ledger.queue.releases c.args.i r c.requires.queued core.whole.placed) (returns-clause-applied c) o
     (c.lose_content.ensures.in_order (c.lower_release.ensures.in_order (orderly_but r.page core o)))
+
+pub returns-clause-calls : goal.returns-clause-calls
+returns-clause-calls c = c.lose_content.ensures.calls ∙ c.lower_release.ensures.lowered.same.calls

@@ -5,6 +5,7 @@ use Rattle.release_queue.specs.declared.Release.{Release}
 use Rattle.store_core.specs.declared.Core.{Core}
 use Rattle.store_core.specs.Orderly.{HasToWait}
 use Rattle.store_core.proofs.Edited.{held_there}
+use Rattle.store_core.specs.Passing.{PassAdds}
 use Rattle.store_core.proofs.PartOut.{same_release}
 use Rattle.store_core.proofs.PartStays.{looked_leaves, looked_stays}
 use Rattle.store_core.proofs.PartSteps.{count_held, print_held}
@@ -45,3 +46,9 @@ returns-clause-looks c =
     let at = slice_get-get_or core.ledger.queue.releases c.args.i c.at.result.now c.requires.queued ∙ ap (λ r. Some r) (sym c.at.ensures.release) in
     looked_leaves core c.is_blocked.new.self c.take_out-is_freed.new.self c.args.prints.now c.forget.new.prints c.args.i c.at.result.now c.take_out-is_freed.result c.args.freed.now c.forget.result
     c.is_blocked.ensures.same at c.take_out-is_freed.ensures.out c.forget.ensures.forgets c.forget.ensures.count
+
+pub returns-then-is_blocked-clause-adds : goal.returns-then-is_blocked-clause-adds
+returns-then-is_blocked-clause-adds c = subst (λ (x : Core). PassAdds x c.stay.new.self) c.is_blocked.ensures.same c.stay.ensures.adds
+
+pub returns-clause-adds : goal.returns-clause-adds
+returns-clause-adds c = subst (λ (x : Core). PassAdds x c.take_out-is_freed.new.self) c.is_blocked.ensures.same c.take_out-is_freed.ensures.adds

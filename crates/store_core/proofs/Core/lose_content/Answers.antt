@@ -42,3 +42,6 @@ returns-then-count-ne0-clause-in_order c o = o
 
 pub returns-else-loose-clause-in_order : goal.returns-else-loose-clause-in_order
 returns-else-loose-clause-in_order c o = o
+
+pub returns-then-loose-clause-calls : goal.returns-then-loose-clause-calls
+returns-then-loose-clause-calls c = c.give_up.ensures.given_up.cache.numbers.calls

@@ -1,13 +1,11 @@
-use Rattle.std.proofs.Common.{arith, ◌≡◌, ◌<◌, ◌≤◌, ◌*◌, ◌∙◌, ℕ, inl, inr, refl, sym, ap, subst, true, Some, length, eqb}
-use Rattle.std.specs.Prelude.{slice_get}
+use Rattle.std.proofs.Common.{◌≡◌, ◌∙◌, ℕ, sym, subst, true, eqb}
 use Rattle.std.proofs.lemmas.Option.{slice_get_within}
-use Rattle.page_cache.specs.View.{holds_in, is_there}
+use Rattle.page_cache.specs.View.{is_there}
 use Rattle.release_queue.specs.declared.Release.{Release}
-use Rattle.store_core.specs.Applied.{CanApply, count_of_release}
+use Rattle.store_core.specs.Applied.{count_of_release}
 use Rattle.store_core.specs.PassParts.{LeavesQueue}
-use Rattle.store_core.specs.Views.{page_in}
-use Rattle.ref_counts.specs.Counts.{count_in}
 use Rattle.store_core.proofs.Edited.{held_there}
+use Rattle.store_core.proofs.NoCalls.{adds_engine, applied_adds}
 use Rattle.store_core.proofs.PartOut.{can_apply, counted_at, leaves_applied, leaves_let_go, same_release}
 use Rattle.store_core.proofs.PartSteps.{count_held}
 use Rattle.store_core.proofs.Queued.{placed_at}
@@ -34,6 +32,7 @@ returns-then-count-eq0 c = record {
   leaves = leaves_let_go c.args.self.now _ c.args.i c.args.release c.requires.queued c.requires.provided
       (counted_at c.args.self.now c.args.i c.args.release c.requires.queued ∙ sym c.count_of-count.ensures ∙ c.if-count-eq0.true)
       c.let_go.ensures.shape c.let_go.ensures.engine c.let_go.ensures.ledger (c.let_go.ensures.laws c.args.release c.requires.queued) c.let_go.ensures.stands c.let_go.ensures.orderly;
+  adds = adds_engine c.args.self.now _ c.let_go.ensures.engine;
 }
 
 pub apply-requires : goal.apply-requires
@@ -44,4 +43,5 @@ pub returns : goal.returns
 returns c = record {
   leaves = subst (λ (n : ℕ). LeavesQueue c.args.i c.args.release (eqb n 1) c.args.self.now c.apply.new.self) (counted_at c.args.self.now c.args.i c.args.release c.requires.queued ∙ sym c.count_of-count.ensures)
       (leaves_applied c.args.self.now _ c.args.i c.args.release c.requires.queued c.requires.provided c.apply.ensures.applied c.apply.ensures.laws c.apply.ensures.stands c.apply.ensures.orderly);
+  adds = applied_adds c.args.i c.args.release c.args.self.now _ (placed_at c.args.self.now.shape c.args.self.now.ledger.queue.releases c.args.i c.args.release c.requires.queued c.args.self.now.whole.placed) c.apply.ensures.calls c.apply.ensures.applied;
 }

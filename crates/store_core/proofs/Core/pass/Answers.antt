@@ -1,4 +1,5 @@
-use Rattle.std.proofs.Common.{arith, ◌-◌}
+use Rattle.std.proofs.Common.{arith, ◌-◌, refl}
+use Rattle.store_core.proofs.NoCalls.{adds_engine, adds_then}
 use Rattle.store_core.proofs.PartStays.{done_frame, done_frees, done_order, done_waits, next_from, next_within, passed_none, passed_then, passing_next}
 use Rattle.store_core.proofs.Core.pass.Goals as goal
 
@@ -6,6 +7,7 @@ pub loop-i-init : goal.loop-i-init
 loop-i-init c = record {
   passed = passed_none c.args.self.now c.args.prints.now;
   passing = record { provided = c.requires.provided; orderly = c.requires.orderly; behind = λ k lt. absurd (omega (arith, lt)) };
+  adds = adds_engine c.args.self.now c.args.self.now refl;
   within = omega arith;
 }
 
@@ -38,6 +40,7 @@ loop-i-preserved c = record {
   passed = passed_then c.args.self.now c.loop-i.self c.look_at-from.new.self c.args.prints.now c.loop-i.prints c.look_at-from.new.prints c.loop-i.from c.in-Some.i c.look_at-from.result c.loop-i.freed c.look_at-from.new.freed
       c.in-Some.ensures c.loop-i.invariant.passing c.loop-i.invariant.passed c.look_at-from.ensures.looks;
   passing = c.look_at-from.ensures.passing;
+  adds = adds_then c.args.self.now c.loop-i.self c.look_at-from.new.self c.loop-i.invariant.passed.part.frame.shape c.loop-i.invariant.adds c.look_at-from.ensures.adds;
   within = c.look_at-from.ensures.looks.within;
 }
 
@@ -67,3 +70,6 @@ returns-clause-provided c = c.loop-i.invariant.passing.provided
 
 pub returns-clause-orderly : goal.returns-clause-orderly
 returns-clause-orderly c = c.loop-i.invariant.passing.orderly
+
+pub returns-clause-adds : goal.returns-clause-adds
+returns-clause-adds c = c.loop-i.invariant.adds

@@ -3,6 +3,7 @@ use Rattle.std.specs.List.{All}
 use Rattle.release_queue.specs.Queued.{QueueLists}
 use Rattle.release_queue.proofs.LookLemmas.{unmarked_length}
 use Rattle.store_core.specs.Whole.{IsPlaced}
+use Rattle.store_core.proofs.NoCalls.{adds_engine}
 use Rattle.store_core.proofs.PartStays.{placed_looked, stays_part, stays_passing}
 use Rattle.store_core.proofs.Core.stay.Goals as goal
 
@@ -27,3 +28,6 @@ returns-clause-passing c = stays_passing c.args.self.now _ c.args.i (refl, refl,
 
 pub returns-clause-length : goal.returns-clause-length
 returns-clause-length c = ap (λ (q : QueueLists). length q.releases) c.looked.ensures ∙ unmarked_length c.args.self.now.ledger.queue.releases c.args.i
+
+pub returns-clause-adds : goal.returns-clause-adds
+returns-clause-adds c = adds_engine c.args.self.now _ refl
