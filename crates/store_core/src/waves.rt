@@ -56,7 +56,11 @@ impl Core {
     /// barrier was made. The core stands for the same arrays, as in [`settle`](Core::settle), and so does it after `Failed`.
     ///
     /// It costs what the engine's `idle_turn` does, and what the ledger is told.
-    pub fn idle_turn<D: Device>(&mut self, device: &mut D, policy: &mut dyn MergePolicy) -> Result<bool, Failed>
+    pub fn idle_turn<D: Device>(
+        &mut self,
+        device: &mut D,
+        policy: &mut dyn MergePolicy,
+    ) -> Result<bool, Failed>
         requires room { total self.old.shape ≤ (D.seen device.old).pages }
         ensures turn { TurnEnds ledger_told result ((MergePolicy-dyn policy.old).seen policy.old.1) (lent (D.seen device.old) self.old) ((MergePolicy-dyn policy.new).seen policy.new.1) (lent (D.seen device.new) self.new) }
         ensures flows { Flows (D.seen device.old) (D.seen device.new) self.old self.new }
