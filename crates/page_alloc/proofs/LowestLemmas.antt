@@ -87,3 +87,14 @@ module _ (shape : ShapeView) (groups : List Marks) (free written : List ℕ) (wa
             free = ap is_free (viewed shape groups view is (64 * g + bit + 1) (omega arith) (omega (arith, same, lowest_within))) ∙ lowest_free;
             below = λ q first less. ap is_free (viewed shape groups view is q (omega (arith, first)) (omega (arith, less, same, lowest_within))) ∙ below_free q (omega (arith, first)) less;
           }
+
+-- whether a page is free, by the word of its group
+pub free_bit : (shape : ShapeView) (groups : List Marks) (free written : List ℕ) (view : PoolView) (p g bit word : ℕ) (old : Marks) → IsPool shape groups free written → pool_told shape (told_at groups) ≡ view → 1 ≤ p → p ≤ view.shape.pages
+    → g ≡ (p - 1) / 64 → bit ≡ (p - 1) % 64 → old ≡ get_or groups g old → ((i : ℕ) → i < 64 → is_one word i ≡ is_free (told_in old i)) → is_one word bit ≡ is_free (told_of view p)
+unfolding told_at
+free_bit shape groups free written view p g bit word old was is first last at_group at_bit read bits =
+    let inside : p ≤ shape.pages = omega (arith, last, ap (λ (v : PoolView). v.shape.pages) is) in
+    let within : g < length groups = omega (arith, at_group, was.long, inside, first) in
+    let there : old ≡ marks_at groups ((p - 1) / 64) = get_or_read groups g old within read _ ∙ ap (marks_at groups) at_group in
+    bits bit (omega (arith, at_bit)) ∙ ap (λ (m : Marks). is_free (told_in m bit)) there ∙ ap (λ (b : ℕ). is_free (told_in (marks_at groups ((p - 1) / 64)) b)) at_bit
+    ∙ sym (ap is_free (viewed shape groups view is p first last))

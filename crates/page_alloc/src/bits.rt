@@ -21,6 +21,15 @@ pub fn without_bit(word: u64, bit: u32) -> u64
     word & !(1 << bit)
 }
 
+// Whether a bit is set.
+#[tactic(auto, unfolding(crate::specs::Bits::is_one))]
+pub fn has_bit(word: u64, bit: u32) -> bool
+    requires { bit < 64 }
+    ensures { result ≡ is_one word bit }
+{
+    (word >> bit) % 2 == 1
+}
+
 // The lowest bit that is set.
 pub fn lowest_bit(word: u64) -> Option<u32>
     ensures lowest { IfSome result (IsLowestBit word) }

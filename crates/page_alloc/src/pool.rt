@@ -7,7 +7,7 @@ ghost use Rattle.page_alloc.specs.Kept.{told_at, marks_at, IsIndexed};
 ghost use Rattle.page_alloc.specs.Marks.{no_told};
 ghost use Rattle.page_alloc.specs.Pool.{IsLaidOut, IsTold, told_of};
 
-use crate::bits::lowest_bit;
+use crate::bits::{has_bit, lowest_bit};
 use crate::groups::{GROUPS, put, settle, tell};
 use crate::marks::{Marks, Step};
 use crate::numbers::Numbers;
@@ -139,6 +139,16 @@ impl Pool {
             },
             None => None,
         }
+    }
+
+    /// Whether a data page is free. Constant time.
+    pub fn is_free(&self, p: u32) -> bool
+        requires first { 1 ≤ p }
+        requires last { p ≤ self.now.shape.pages }
+        ensures { result ≡ is_free (told_of self.now p) }
+    {
+        let (group, bit) = place_of(p);
+        has_bit(self.groups[group].free(), bit)
     }
 
     /// Says that the cached count of a data page is above 0 now. It is not free then. A page that is taken

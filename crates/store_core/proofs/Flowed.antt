@@ -45,7 +45,7 @@ room_then a b c h k = record {
   room = k.room ∙ h.room;
 }
 
-pub flows_then : (d e f : Meaning) (a b c : Core) → Flows d e a b → Flows e f b c → Flows d f a c
+unfoldable pub flows_then : (d e f : Meaning) (a b c : Core) → Flows d e a b → Flows e f b c → Flows d f a c
 flows_then d e f a b c h k = record {
   passes = passes_then d e f a b c h.passes k.passes;
   cached = λ sound array s q. k.cached sound array (h.passes.stands sound array s) q ∙ h.cached sound array s q;
@@ -94,7 +94,7 @@ module _ (d e : Meaning) (old new : Core) (shape : new.shape ≡ old.shape) wher
         recorded = λ s r. sym (w.tried.births.slots.recorded s) ∙ sym (w.written.births.slots.recorded s) ∙ r;
       }
 
-  pub failed_write_flows : (page : ℕ) → WriteFailed ledger_told page (at d old.engine old.ledger) (at e new.engine new.ledger) → Flows d e old new
+  unfoldable pub failed_write_flows : (page : ℕ) → WriteFailed ledger_told page (at d old.engine old.ledger) (at e new.engine new.ledger) → Flows d e old new
   failed_write_flows page w = record {
     passes = passes_call (WriteEntry page w.call.block (Err w.failed)) d e old new w.call.call w.cache.calls w.cause.never_falls (not_calm w.failed d e w.cause) shape (λ sound array s. failed_write_stands sound d e old new array shape s page w);
     cached = λ sound array s. failed_write_cached sound d e old new array shape s page w;
@@ -133,7 +133,7 @@ module _ (d e : Meaning) (old new : Core) (shape : new.shape ≡ old.shape) wher
     recorded = λ s r. (and_parts _ _ (sym (w.fixed.births.recorded s) ∙ r)).0;
   }
 
-  pub failed_barrier_flows : BarrierFailed ledger_told (at d old.engine old.ledger) (at e new.engine new.ledger) → Flows d e old new
+  unfoldable pub failed_barrier_flows : BarrierFailed ledger_told (at d old.engine old.ledger) (at e new.engine new.ledger) → Flows d e old new
   failed_barrier_flows w = record {
     passes = passes_call (FlushEntry (Err w.failed)) d e old new w.call w.cache.calls w.cause.never_falls (not_calm w.failed d e w.cause) shape (λ sound array s. failed_barrier_stands sound d e old new array shape s w);
     cached = λ sound array s. failed_barrier_cached sound d e old new array shape s w;

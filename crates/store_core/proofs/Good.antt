@@ -63,16 +63,16 @@ module _ (shape : ShapeView) (sound : Bool) (array : ℕ → List Block) (image 
   map_is : (l : ℕ) → l < shape.blocks → map_of image l ≡ entry_of (get_or image (map_page l) []) (map_place l)
   map_is l lt = ap (λ (c : Block). entry_of c (map_place l)) (at (map_page l) (map_in l lt))
 
-  count_is : (p : ℕ) → 1 ≤ p → p ≤ shape.pages → count_of image p ≡ entry_of (get_or image (count_page shape p) []) (count_place p)
+  pub count_is : (p : ℕ) → 1 ≤ p → p ≤ shape.pages → count_of image p ≡ entry_of (get_or image (count_page shape p) []) (count_place p)
   count_is p first last = ap (λ (s : ShapeView). entry_of (page_of image (count_page s p)) (count_place p)) same ∙ ap (λ (c : Block). entry_of c (count_place p)) (at (count_page shape p) (count_in p first last))
 
-  print_is : (p : ℕ) → 1 ≤ p → p ≤ shape.pages → print_of image p ≡ print_entry_of (get_or image (print_page shape p) []) (print_place p)
+  pub print_is : (p : ℕ) → 1 ≤ p → p ≤ shape.pages → print_of image p ≡ print_entry_of (get_or image (print_page shape p) []) (print_place p)
   print_is p first last = ap (λ (s : ShapeView). print_entry_of (page_of image (print_page s p)) (print_place p)) same ∙ ap (λ (c : Block). print_entry_of c (print_place p)) (at (print_page shape p) (print_in p first last))
 
-  data_is : (p : ℕ) → 1 ≤ p → p ≤ shape.pages → data_of image p ≡ get_or image (data_page shape p) []
+  pub data_is : (p : ℕ) → 1 ≤ p → p ≤ shape.pages → data_of image p ≡ get_or image (data_page shape p) []
   data_is p first last = ap (λ (s : ShapeView). page_of image (data_page s p)) same ∙ at (data_page shape p) (data_in p first last)
 
-  names_are : (p : ℕ) → names image p ≡ count_below (λ l. eqb (entry_of (get_or image (map_page l) []) (map_place l)) p) shape.blocks
+  pub names_are : (p : ℕ) → names image p ≡ count_below (λ l. eqb (entry_of (get_or image (map_page l) []) (map_place l)) p) shape.blocks
   names_are p = ap (λ (s : ShapeView). count_below (λ l. eqb (map_of image l) p) s.blocks) same
       ∙ count_same shape.blocks (λ l. eqb (map_of image l) p) (λ l. eqb (entry_of (get_or image (map_page l) []) (map_place l)) p) (λ l lt. ap (λ (n : ℕ). eqb n p) (map_is l lt))
 
@@ -93,7 +93,7 @@ module _ (shape : ShapeView) (sound : Bool) (array : ℕ → List Block) (image 
         ((formed_print shape k (get_or image (first_print_page shape + k) []) few).0 (fit.contents.well_formed (first_print_page shape + k) (inr (170 * k + 1, (omega arith, omega (arith, few)), inr (omega arith))))));
   }
 
-  few_pages : (p : ℕ) → p ≤ (shape_of image).pages → p ≤ shape.pages
+  pub few_pages : (p : ℕ) → p ≤ (shape_of image).pages → p ≤ shape.pages
   few_pages p h = subst (λ (s : ShapeView). p ≤ s.pages) same h
 
   names_counted : (p : ℕ) → 1 ≤ p → p ≤ (shape_of image).pages → names image p ≤ count_of image p

@@ -50,3 +50,4 @@ pub mod Opens
 pub mod PartOut
 pub mod PartStays
 pub mod NoCalls
+pub mod Stopping

@@ -73,25 +73,25 @@ some_is o print e = ap is_some e
 
 -- a good image
 module _ (sound : Bool) (image : List Block) (good : IsGood (mode_of sound) image) where
-  abbrev shape : ShapeView
+  abbrev pub shape : ShapeView
   shape = shape_of image
 
-  abbrev on_ : ℕ → Block
+  abbrev pub on_ : ℕ → Block
   on_ page = get_or image page []
 
   at : (k : ℕ) → k < total shape → page_of image k ≡ on_ k
   at k lt = page_is image k (omega (arith, lt, good.shape.enough))
 
-  map_is : (l : ℕ) → l < shape.blocks → map_of image l ≡ entry_of (on_ (map_page l)) (map_place l)
+  pub map_is : (l : ℕ) → l < shape.blocks → map_of image l ≡ entry_of (on_ (map_page l)) (map_place l)
   map_is l lt = ap (λ (c : Block). entry_of c (map_place l)) (at (map_page l) (omega (arith, lt)))
 
   pub count_is : (p : ℕ) → 1 ≤ p → p ≤ shape.pages → count_of image p ≡ entry_of (on_ (count_page shape p)) (count_place p)
   count_is p first last = ap (λ (c : Block). entry_of c (count_place p)) (at (count_page shape p) (omega (arith, first, last)))
 
-  print_is : (p : ℕ) → 1 ≤ p → p ≤ shape.pages → print_of image p ≡ print_entry_of (on_ (print_page shape p)) (print_place p)
+  pub print_is : (p : ℕ) → 1 ≤ p → p ≤ shape.pages → print_of image p ≡ print_entry_of (on_ (print_page shape p)) (print_place p)
   print_is p first last = ap (λ (c : Block). print_entry_of c (print_place p)) (at (print_page shape p) (omega (arith, first, last)))
 
-  data_is : (p : ℕ) → 1 ≤ p → p ≤ shape.pages → data_of image p ≡ on_ (data_page shape p)
+  pub data_is : (p : ℕ) → 1 ≤ p → p ≤ shape.pages → data_of image p ≡ on_ (data_page shape p)
   data_is p first last = at (data_page shape p) (omega (arith, first, last))
 
   names_are : (p : ℕ) → names image p ≡ count_below (λ l. eqb (entry_of (on_ (map_page l)) (map_place l)) p) shape.blocks
@@ -215,10 +215,10 @@ module _ (shape : ShapeView) (size : ℕ) (pool : PoolView) (core : Core) (is : 
   }
 
 module _ (sound : Bool) (d : Meaning) (size : ℕ) (pool : PoolView) (core : Core) (can : CanOpen sound d pool) (is : IsOpened (shape_of d.state.fixed) size pool core) where
-  abbrev image : List Block
+  abbrev pub image : List Block
   image = d.state.fixed
 
-  rest : AtRest (world_of d core)
+  pub rest : AtRest (world_of d core)
   rest = record {
     one = λ page c possible. elim possible [ inl new ↦ new | inr old ↦ one_content d.state image can.rest page c old ];
     cached = λ page. ap (λ (o : Option Block). held_or o (newest_on d.state page)) (is.cache.content page);
@@ -238,7 +238,7 @@ module _ (sound : Bool) (d : Meaning) (size : ℕ) (pool : PoolView) (core : Cor
   contents : ContentsFit (lay_of (shape_of image)) sound (λ page. newest_on d.state page) (array_start image).lists
   contents = subst (λ (s : DeviceState). ContentsFit (lay_of (shape_of image)) sound (λ page. newest_on s page) (array_start image).lists) (sym can.rest) (contents_fit sound image can.good)
 
-  newest_is : (page : ℕ) → newest_on d.state page ≡ get_or image page []
+  pub newest_is : (page : ℕ) → newest_on d.state page ≡ get_or image page []
   newest_is page = ap (λ (s : DeviceState). newest_on s page) can.rest
 
   count_now : (p : ℕ) → 1 ≤ p → p ≤ (shape_of image).pages → entry_of (newest_on d.state (count_page (shape_of image) p)) (count_place p) ≡ count_of image p

@@ -78,7 +78,7 @@ module _ (p : ℕ) (old new : Core) where
       (all_both H (IsLookedBut p old) (IsLookedBut p new) (λ r h was ne off. on r h ne (was ne off)) old.ledger.queue.releases each looked)
 
   -- edges and pages that are held stay
-  rest_on : SameRest old new → (r : Release) → content_in new.engine.cache r.count_at ≡ content_in old.engine.cache r.count_at → content_in new.engine.cache r.print_at ≡ content_in old.engine.cache r.print_at → HasToWait old r → HasToWait new r
+  pub rest_on : SameRest old new → (r : Release) → content_in new.engine.cache r.count_at ≡ content_in old.engine.cache r.count_at → content_in new.engine.cache r.print_at ≡ content_in old.engine.cache r.print_at → HasToWait old r → HasToWait new r
   rest_on rest r count print = waits_on old new r
       (λ a. closes_more (live_in old.engine.graph) (live_in new.engine.graph) (λ x y l. ap (λ (es : List Edge). live_in (record old.engine.graph { edges = es }) x y) rest.graph.edges ∙ l) a r.count_at)
       (last_still old new r

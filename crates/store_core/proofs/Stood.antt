@@ -64,7 +64,7 @@ stands_then sound d e old new array s known pages shape calls told w is first ke
 }
 
 -- one call of the device
-pub passes_call : (P : LogEntry → Type 0) (d e : Meaning) (old new : Core) (call : OneCall P d e) → new.engine.cache.calls ≡ after_call old.engine.cache.calls → d.faults ≤ e.faults → (IsCalm d e → EndsDone call.entry) → new.shape ≡ old.shape
+unfoldable pub passes_call : (P : LogEntry → Type 0) (d e : Meaning) (old new : Core) (call : OneCall P d e) → new.engine.cache.calls ≡ after_call old.engine.cache.calls → d.faults ≤ e.faults → (IsCalm d e → EndsDone call.entry) → new.shape ≡ old.shape
     → ((sound : Bool) (array : ℕ → List Block) → StandsFor sound d old array → StandsFor sound e new array) → Passes d e old new
 passes_call P d e old new call counted falls ends shape stands = record {
   calls = call.entry ∷ [];
@@ -79,7 +79,7 @@ passes_call P d e old new call counted falls ends shape stands = record {
 }
 
 -- one after another
-pub passes_then : (d e f : Meaning) (a b c : Core) → Passes d e a b → Passes e f b c → Passes d f a c
+unfoldable pub passes_then : (d e f : Meaning) (a b c : Core) → Passes d e a b → Passes e f b c → Passes d f a c
 passes_then d e f a b c p q = record {
   calls = p.calls ++ q.calls;
   gains = gains_then p.calls q.calls d e f p.gains q.gains;

@@ -13,6 +13,7 @@ pub mod Placed
 pub mod Moments
 pub mod Applied
 pub mod Quiet
+pub mod Stopped
 pub mod Room
 pub mod Fetching
 pub mod Damaged

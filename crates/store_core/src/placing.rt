@@ -57,6 +57,15 @@ impl Core {
         self.ledger.pool.lowest()
     }
 
+    /// Whether the pool gives a data page. Constant.
+    pub fn is_free(&self, p: u32) -> bool
+        requires first { 1 ≤ p }
+        requires last { p ≤ self.now.shape.pages }
+        ensures { result ≡ is_free (told_of self.now.ledger.pool p) }
+    {
+        self.ledger.pool.is_free(p)
+    }
+
     /// Whether a page is not dirty and nobody holds it. Logarithmic.
     pub fn is_idle(&self, page: u32) -> bool
         ensures clean { result ≡ true → dirty_in self.now.engine.graph page ≡ false }

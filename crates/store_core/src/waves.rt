@@ -17,6 +17,7 @@ impl Core {
     ghost use Rattle.store_core.specs.Orderly.{FewerEdges, IsOrderlyBut, KeepsOrderly};
     ghost use Rattle.store_core.specs.Owed.{IsProvided};
     ghost use Rattle.store_core.specs.Quiet.{Flows};
+    ghost use Rattle.store_core.specs.Stopped.{FlowEnds};
     ghost use Rattle.store_core.specs.Views.{lent};
 
     /// Writes what a page waits for, and then the page, in waves: so after `Ok` it is neither dirty nor hung. The core stands for
@@ -47,6 +48,7 @@ impl Core {
         ensures flows { Flows (D.seen device.old) (D.seen device.new) self.old self.new }
         ensures orderly { KeepsOrderly self.old self.new }
         ensures fewer { FewerEdges self.old self.new }
+        ensures stops { FlowEnds result (D.seen device.old) (D.seen device.new) self.old self.new }
         ensures cause { HasCause result (D.seen device.old) (D.seen device.new) }
     {
         self.engine.flush_all(device, &mut self.ledger)

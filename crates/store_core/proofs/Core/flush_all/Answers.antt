@@ -1,6 +1,7 @@
 use Rattle.store_core.specs.Views.{lent}
 use Rattle.store_core.proofs.OrderlyFlows.{call_orders}
 use Rattle.store_core.proofs.Going.{call_goes, core_fits}
+use Rattle.store_core.proofs.Stopping.{call_ends}
 use Rattle.store_core.proofs.Core.flush_all.Goals as goal
 
 pub flush_all-requires : goal.flush_all-requires
@@ -17,3 +18,6 @@ returns-clause-orderly g c = (call_orders c.args.self.now.shape c.flush_all.resu
 
 pub returns-clause-fewer : goal.returns-clause-fewer
 returns-clause-fewer g c = (call_orders c.args.self.now.shape c.flush_all.result _ _ c.flush_all.ensures.steps).fewer
+
+pub returns-clause-stops : goal.returns-clause-stops
+returns-clause-stops g c = call_ends c.args.self.now.shape c.flush_all.result _ _ c.flush_all.ensures.steps c.requires.room c.args.self.now.whole _
