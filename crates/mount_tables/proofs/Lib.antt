@@ -1,0 +1,9 @@
+mod Firsts
+mod Entries
+mod FitEntries
+mod Fits
+mod Names
+mod Kept
+mod Told
+mod OneMore
+mod Described

@@ -1,0 +1,5 @@
+pub mod Faults
+pub mod Reading
+pub mod Mount
+pub mod Made
+pub mod Describes

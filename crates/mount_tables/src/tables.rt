@@ -1,0 +1,69 @@
+// What a store keeps of the tables of an image.
+ghost use Rattle.std.specs.Prelude.{◌≡◌, ◌≤◌, ◌+◌, ℕ, length, IfOk};
+ghost use Rattle.finger_table.specs.Index.{print_at};
+ghost use Rattle.finger_table.specs.Order.{print_in};
+ghost use Rattle.mount_tables.specs.Made.{AreFew, IsMadeOf};
+
+use crate::pool::pool_of;
+use crate::totals::totals_of;
+use finger_table::Prints;
+use page_alloc::Pool;
+use page_device::NoMemory;
+use page_layout::Shape;
+use std::alloc::Global;
+use store_core::Totals;
+
+/// What a store keeps of the tables of an image: its shape, which data pages are free, the print of each data
+/// page and the pages of each print, and the totals of the counts and names.
+#[derive(Drop)]
+pub struct Tables {
+    pub shape: Shape,
+    pub pool: Pool,
+    pub prints: Prints,
+    pub totals: Totals,
+}
+
+// The index of these prints.
+fn index_of(alloc: Global, table: Vec<Option<[u8; 20]>>) -> Result<Prints, NoMemory>
+    requires few { length table.items ≤ 4294967295 }
+    ensures { IfOk result (λ prints. (p : ℕ) → print_at prints p ≡ print_in table.items p) }
+{
+    let mut prints = Prints::new(alloc);
+    for p in 0..table.len() as u32 {
+        if let Some(print) = &table[p as usize] {
+            prints.insert(print, p)?;
+        }
+    }
+    Ok(prints)
+}
+
+// The tables of an image of this shape, of which so many blocks have a name, with these counts, and prints by the
+// number of the page. The counts are let go before the index of the prints is made.
+pub fn tables_of(
+    alloc: Global,
+    shape: Shape,
+    mapped: u32,
+    counts: Vec<u32>,
+    table: Vec<Option<[u8; 20]>>,
+) -> Result<Tables, NoMemory>
+    requires counts { length counts.items ≡ shape.pages }
+    requires few { AreFew shape.pages counts.items }
+    requires table { length table.items ≡ shape.pages + 1 }
+    ensures { IfOk result (IsMadeOf shape mapped counts.items table.items) }
+{
+    let pool = match pool_of(alloc, &shape, &counts) {
+        Ok(pool) => pool,
+        Err(error) => return Err(error),
+    };
+    let totals = totals_of(&counts, mapped);
+    drop(counts);
+    match index_of(alloc, table) {
+        Ok(prints) => Ok(Tables {
+            shape,
+            pool,
+            prints,
+            totals,
+        }),
+        Err(error) => Err(error),
+    }
+}
