@@ -3,3 +3,4 @@ pub mod ListFunctions
 pub mod Found
 pub mod Edited
 pub mod Ranges
+pub mod Filled

@@ -25,7 +25,7 @@ pub fn lengthen(table: &mut Vec<Option<[u8; 20]>>, p: u32) -> Result<(), NoMemor
 }
 
 // Makes the empty lists that are missing.
-fn make_lists(alloc: Global, lists: &mut Vec<Vec<u32>>) -> Result<(), NoMemory>
+pub fn make_lists(alloc: Global, lists: &mut Vec<Vec<u32>>) -> Result<(), NoMemory>
     ensures all { OnOk result (65536 ≤ vec_len lists.new) }
     ensures same { (k : ℕ) → list_at lists.new.items k ≡ list_at lists.old.items k }
     ensures rooms { (k : ℕ) → has_room lists.old.items k ≡ true → has_room lists.new.items k ≡ true }

@@ -13,12 +13,13 @@ pub const LISTS: usize = 65_536;
 pub fn list_of(print: &[u8; 20]) -> usize
     ensures list { result ≡ bucket_of print.now }
     ensures within { result < 65536 }
+    ensures is_print { IsPrint print.now }
 {
     256 * print[0] as usize + print[1] as usize
 }
 
 // The page is before a number of a print.
-fn is_before(prints: &[Option<[u8; 20]>], page: u32, print: &[u8; 20], from: u64) -> bool
+pub fn is_before(prints: &[Option<[u8; 20]>], page: u32, print: &[u8; 20], from: u64) -> bool
     requires small { from ≤ 4294967296 }
     requires prints { (p : ℕ) (own : List ℕ) → print_in prints.now p ≡ Some own → IsPrint own }
     ensures { result ≡ nat_le (key_in prints.now page) (rank print.now * 4294967296 + from) }

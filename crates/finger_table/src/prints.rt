@@ -1,10 +1,11 @@
 // The prints of all data pages.
-ghost use Rattle.std.specs.Prelude.{◌≡◌, ◌≢◌, ◌↔◌, ℕ, List, true, None, Some, OnOk, OnErr, IsOk};
+ghost use Rattle.std.specs.Prelude.{◌≡◌, ◌≢◌, ◌↔◌, ◌≤◌, ℕ, List, length, true, None, Some, IfOk, OnOk, OnErr, IsOk};
 ghost use Rattle.std.specs.List.Sorted.{IsStrictlyIncreasing};
 ghost use Rattle.finger_table.specs.Index.{print_at, is_ready, StandsIn};
-ghost use Rattle.finger_table.specs.Order.{bucket_of};
+ghost use Rattle.finger_table.specs.Order.{bucket_of, print_in};
 
-use crate::lists::{lengthen, put_page, reserve, take_page};
+use crate::bulk::{fill_lists, sort_lists};
+use crate::lists::{lengthen, make_lists, put_page, reserve, take_page};
 use crate::order::{list_of, part_of, place};
 use page_device::NoMemory;
 use std::alloc::Global;
@@ -52,6 +53,30 @@ impl Prints {
             table: Vec::new(alloc),
             lists: Vec::new(alloc),
         }
+    }
+
+    /// The prints of a whole table by the number of the page, which need not be in any order. Takes the lists beside the
+    /// table. Linear in the table, beside a sort of each list: a step that is logarithmic in its list for each print,
+    /// whatever the prints are. It does not say that there is memory.
+    pub fn from_table(alloc: Global, table: Vec<Option<[u8; 20]>>) -> Result<Prints, NoMemory>
+        requires { length table.items ≤ 4294967295 }
+        ensures { IfOk result (λ prints. (p : ℕ) → print_at prints p ≡ print_in table.items p) }
+    {
+        let mut lists = Vec::new(alloc);
+        match make_lists(alloc, &mut lists) {
+            Ok(()) => {}
+            Err(error) => return Err(error),
+        }
+        match fill_lists(&table, &mut lists) {
+            Ok(()) => {}
+            Err(error) => return Err(error),
+        }
+        sort_lists(&table, &mut lists);
+        Ok(Prints {
+            alloc,
+            table,
+            lists,
+        })
     }
 
     /// The print of a page, if it has one. Constant time. It does not say that this is the fingerprint of what the page holds.
