@@ -1,7 +1,5 @@
 // What a store keeps of the tables of an image.
 ghost use Rattle.std.specs.Prelude.{◌≡◌, ◌≤◌, ◌+◌, ℕ, length, IfOk};
-ghost use Rattle.finger_table.specs.Index.{print_at};
-ghost use Rattle.finger_table.specs.Order.{print_in};
 ghost use Rattle.mount_tables.specs.Made.{AreFew, IsMadeOf};
 
 use crate::pool::pool_of;
@@ -21,20 +19,6 @@ pub struct Tables {
     pub pool: Pool,
     pub prints: Prints,
     pub totals: Totals,
-}
-
-// The index of these prints.
-fn index_of(alloc: Global, table: Vec<Option<[u8; 20]>>) -> Result<Prints, NoMemory>
-    requires few { length table.items ≤ 4294967295 }
-    ensures { IfOk result (λ prints. (p : ℕ) → print_at prints p ≡ print_in table.items p) }
-{
-    let mut prints = Prints::new(alloc);
-    for p in 0..table.len() as u32 {
-        if let Some(print) = &table[p as usize] {
-            prints.insert(print, p)?;
-        }
-    }
-    Ok(prints)
 }
 
 // The tables of an image of this shape, of which so many blocks have a name, with these counts, and prints by the
@@ -57,7 +41,7 @@ pub fn tables_of(
     };
     let totals = totals_of(&counts, mapped);
     drop(counts);
-    match index_of(alloc, table) {
+    match Prints::from_table(alloc, table) {
         Ok(prints) => Ok(Tables {
             shape,
             pool,
