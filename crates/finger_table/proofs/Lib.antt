@@ -4,3 +4,4 @@ pub mod Found
 pub mod Edited
 pub mod Ranges
 pub mod Filled
+pub mod Comparing

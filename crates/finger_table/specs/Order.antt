@@ -1,5 +1,7 @@
 -- The order in which pages are kept: by their prints, and those of one print by their numbers.
-use Rattle.std.specs.Prelude.{◌≡◌, ℕ, ◌+◌, ◌*◌, ◌^◌, ◌<◌, List, [], ◌∷◌, length, slice_index, slice_index_or, Option, Some, None}
+use Rattle.std.specs.Prelude.{◌≡◌, ℕ, ◌+◌, ◌*◌, ◌^◌, ◌<◌, List, [], ◌∷◌, length, slice_index, slice_index_or, Option, Some, None, Bool, cond}
+use Rattle.std.specs.declared.cmp.Ordering.{Ordering}
+use Rattle.std.specs.declared.cmp.Ordering.TheVariants.{Less, Greater}
 
 -- a print has 20 bytes
 pub record IsPrint (print : List ℕ) : Type 0 where
@@ -27,3 +29,7 @@ key_in table p = key_of (print_in table p) p
 -- the list in which the pages of a print are kept, by its first two bytes
 abbrev pub bucket_of : List ℕ → ℕ
 bucket_of print = 256 * slice_index print 0 + slice_index print 1
+
+-- the answer of a comparison of two pages that are not equal in the order
+abbrev pub less_where : Bool → Ordering
+less_where is_before = cond is_before Less Greater

@@ -1,10 +1,9 @@
 // The lists of a whole table of prints at once.
 ghost use Rattle.std.specs.Prelude.{◌≡◌, ◌≢◌, ◌<◌, ◌≤◌, ◌+◌, ◌++◌, ◌∷◌, [], ℕ, List, Some, OnOk, length, nat_lt, vec_len};
 ghost use Rattle.std.specs.List.Sorted.{IsNonDecreasingBy, IsPermutation};
-ghost use Rattle.std.specs.Ordering.{nat_cmp};
 ghost use Rattle.finger_table.specs.Filled.{IsFilled};
 ghost use Rattle.finger_table.specs.Index.{list_at, IsIndexed};
-ghost use Rattle.finger_table.specs.Order.{IsPrint, key_in, print_in};
+ghost use Rattle.finger_table.specs.Order.{IsPrint, key_in, less_where, print_in};
 
 use crate::order::{is_before, list_of};
 use page_device::NoMemory;
@@ -67,18 +66,16 @@ fn goes_before(prints: &[Option<[u8; 20]>], a: u32, b: u32) -> bool
     }
 }
 
-// How two pages stand to each other in a list.
+// How two pages stand to each other in a list. No two of its pages are equal in that order, so one test is enough.
 fn compare(prints: &[Option<[u8; 20]>], a: u32, b: u32) -> Ordering
     requires { (p : ℕ) (own : List ℕ) → print_in prints.now p ≡ Some own → IsPrint own }
-    ensures { result ≡ nat_cmp (key_in prints.now a) (key_in prints.now b) }
+    ensures { result ≡ less_where (nat_lt (key_in prints.now a) (key_in prints.now b)) }
 {
     if goes_before(prints, a, b) {
-        return Ordering::Less;
+        Ordering::Less
+    } else {
+        Ordering::Greater
     }
-    if goes_before(prints, b, a) {
-        return Ordering::Greater;
-    }
-    Ordering::Equal
 }
 
 // Sorts one list.

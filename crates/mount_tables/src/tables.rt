@@ -1,5 +1,5 @@
 // What a store keeps of the tables of an image.
-ghost use Rattle.std.specs.Prelude.{◌≡◌, ◌≤◌, ◌+◌, ℕ, length, IfOk};
+ghost use Rattle.std.specs.Prelude.{◌≡◌, ◌+◌, length, IfOk};
 ghost use Rattle.mount_tables.specs.Made.{AreFew, IsMadeOf};
 
 use crate::pool::pool_of;

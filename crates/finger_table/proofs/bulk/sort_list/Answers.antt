@@ -1,6 +1,6 @@
 use Rattle.std.proofs.Common.{◌<◌, ℕ, List, length, IsPermutation, sym, subst, arith, rules}
 use Rattle.std.specs.List.Sorted.{IsNonDecreasingBy}
-use Rattle.std.proofs.lemmas.List.Sorted.{IsNonDecreasingBy-from_sort_by}
+use Rattle.finger_table.proofs.Comparing.{in_order_by_test}
 use Rattle.finger_table.specs.Order.{key_in}
 use Rattle.finger_table.specs.Index.{list_at}
 use Rattle.finger_table.proofs.ListFunctions.{list_at_index, list_at_set, list_at_other}
@@ -11,7 +11,7 @@ returns-clause-sorted c =
     let key : ℕ → ℕ = key_in c.args.prints.now in
     let within : c.args.list < length c.args.lists.now.items = omega (arith, c.args.lists.now.ok.0) in
     subst (IsNonDecreasingBy key) (sym (list_at_set c.args.lists.now.items c.args.list c.sort_unstable_by.new.self within))
-    (IsNonDecreasingBy-from_sort_by key _ c.sort_unstable_by.ensures.sorted (λ a r g k. search rules))
+    (in_order_by_test key _ c.sort_unstable_by.ensures.sorted (λ a r g k. search rules))
 
 pub returns-clause-same : goal.returns-clause-same
 returns-clause-same c =
